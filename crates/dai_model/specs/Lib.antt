@@ -1,0 +1,15 @@
+pub mod Formula
+pub mod Protocol
+pub mod Structure
+pub mod Value
+pub mod Execution
+pub mod Reachable
+pub mod WellSorted
+pub mod Placement
+pub mod Clause
+pub mod Template
+pub mod Subsumption
+pub mod Inductive
+pub mod Answer
+pub mod Report
+pub mod TwoFlags

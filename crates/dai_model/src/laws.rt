@@ -1,0 +1,47 @@
+//! Laws of the definitions, over every protocol.
+ghost use Rattle.std.specs.Prelude.{◌≡◌, ℕ, ◌<◌, ◌↔◌, ◌++◌, Bool, List, IsTrue};
+ghost use Rattle.dai_model.specs.Protocol.{Protocol};
+ghost use Rattle.dai_model.specs.Structure.{Structure};
+ghost use Rattle.dai_model.specs.Value.{every, some};
+ghost use Rattle.dai_model.specs.WellSorted.{IsProtocol};
+ghost use Rattle.dai_model.specs.Reachable.{IsReachable};
+ghost use Rattle.dai_model.specs.Clause.{Clause, Meets};
+ghost use Rattle.dai_model.specs.Template.{Bounds, IsTemplate};
+ghost use Rattle.dai_model.specs.Subsumption.{Subsumes};
+ghost use Rattle.dai_model.specs.Inductive.{IsInductive, IsInductiveUpTo, IsInGreatest};
+
+/// A quantifier means what it says: `every` is "for all elements", `some` is "for some element".
+pub fn quantifiers_range_over_elements()
+    ensures for_all { (n : ℕ) (test : ℕ → Bool) → IsTrue (every n test) ↔ ((e : ℕ) → e < n → IsTrue (test e)) }
+    ensures for_some { (n : ℕ) (test : ℕ → Bool) → IsTrue (some n test) ↔ ((e : ℕ) × (e < n) × IsTrue (test e)) }
+{}
+
+/// The union of two inductive lists is inductive, so the greatest inductive set is inductive too.
+pub fn union_is_inductive()
+    ensures { (P : Protocol) (I J : List Clause) → IsInductive P I → IsInductive P J → IsInductive P (I ++ J) }
+{}
+
+/// A list that is inductive over all sizes is inductive up to every sizes.
+pub fn inductive_up_to_every_size()
+    ensures { (P : Protocol) (I : List Clause) (sizes : List ℕ) → IsInductive P I → IsInductiveUpTo sizes P I }
+{}
+
+/// A clause of the greatest inductive set holds in every reachable state, at every number of nodes.
+pub fn greatest_set_is_invariant()
+    ensures { (P : Protocol) (B : Bounds) (c : Clause) → IsProtocol P → IsInGreatest P B c → (s : Structure) → IsReachable P s → Meets P s c }
+{}
+
+/// A clause below another one implies it in every structure.
+pub fn below_implies()
+    ensures { (P : Protocol) (B : Bounds) (below above : Clause) → IsTemplate P B below → Subsumes P below above → (s : Structure) → Meets P s below → Meets P s above }
+{}
+
+/// A clause is below itself.
+pub fn below_is_reflexive()
+    ensures { (P : Protocol) (B : Bounds) (c : Clause) → IsTemplate P B c → Subsumes P c c }
+{}
+
+/// What is below a clause below another one is below that one.
+pub fn below_is_transitive()
+    ensures { (P : Protocol) (B : Bounds) (a b c : Clause) → IsTemplate P B a → Subsumes P a b → Subsumes P b c → Subsumes P a c }
+{}
