@@ -1,0 +1,4 @@
+pub mod SignLemmas
+pub mod PieceLemmas
+pub mod Order
+pub mod Unique
