@@ -1,0 +1,5 @@
+pub mod Trees
+pub mod Protocols
+pub mod Tables
+pub mod Environments
+pub mod Execution
