@@ -1,0 +1,4 @@
+pub mod Flags
+pub mod Drafts
+pub mod Numbers
+pub mod Meaning
