@@ -1,0 +1,6 @@
+-- at most one clause is kept of each that was looked at
+use Rattle.std.proofs.Common.{◌≤◌, length, vec_len}
+use Rattle.dai_weaken.proofs.removal.met_at_first.Given as goal
+
+abbrev pub invariant-loop-clause : goal.invariant-loop-clause
+invariant-loop-clause g l = vec_len l.kept ≤ length l.yielded
