@@ -1,0 +1,44 @@
+-- What the program answers, and what it puts to its sinks.
+use Rattle.std.specs.Prelude.{◌≡◌, ℕ, ◌<◌, ◌≤◌, ◌⊎◌, List, [], ◌++◌, length, codes, Option, Some, None, Result, Ok, Err, IsSomeAnd}
+use Rattle.dai_base.specs.Count.{Rises}
+use Rattle.dai_base.specs.Sink.{Appends, AppendsPart}
+use Rattle.dai_base.specs.Files.{Holdings}
+use Rattle.dai_base.specs.Fault.{fault_text}
+use Rattle.dai_base.specs.declared.fault.Fault.TheVariants.{Words, InFile, TooLong}
+use Rattle.dai_top.specs.Words.{Refusal, Choices, settings_of}
+
+-- Where a line is to be put with a status: it was put whole, with that status; or the sink's count of faults
+-- rose and some part was put, with status 4; or memory ran out and nothing was put, with status 5.
+abbrev pub IsTold : List ℕ → ℕ → Option (List ℕ) → Option (List ℕ) → ℕ → ℕ → ℕ → Type 0
+IsTold line wanted old new before now status =
+    ((status ≡ wanted) × Appends old new line) ⊎ (((status ≡ 4) × Rises before now × AppendsPart old new line) ⊎ ((status ≡ 5) × (new ≡ old)))
+
+-- the lines of the faults
+abbrev pub words_fault : Refusal → List ℕ
+words_fault r = fault_text [] (Words r.number r.word)
+
+abbrev pub length_fault : List ℕ → List ℕ
+length_fault name = fault_text name TooLong
+
+-- at the first byte: the file isn't one that the program runs on
+abbrev pub profile_fault : List ℕ → List ℕ
+profile_fault name = fault_text name (InFile 20 (record { line = 1; column = 1 }))
+
+abbrev pub read_fault : List ℕ → List ℕ
+read_fault name = name ++ codes ": cannot be read\n"
+
+abbrev pub most_bytes : ℕ
+most_bytes = 1048576
+
+-- where it is told what is held: more bytes than the limit are held under the name
+abbrev pub IsLong : Option Holdings → List ℕ → Type 0
+IsLong held name = (files : Holdings) → held ≡ Some files → IsSomeAnd (files name) (λ bytes. most_bytes < length bytes)
+
+-- where it is told what is held: bytes within the limit are held under the name
+abbrev pub IsShort : Option Holdings → List ℕ → Type 0
+IsShort held name = (files : Holdings) → held ≡ Some files → IsSomeAnd (files name) (λ bytes. length bytes ≤ most_bytes)
+
+-- Status 2 after the words were accepted: the file is too long, or the reader refused it.
+abbrev pub IsRefusedFile : Option Holdings → List ℕ → Option (List ℕ) → Option (List ℕ) → Type 0
+IsRefusedFile held name old new =
+    (IsLong held name × Appends old new (length_fault name)) ⊎ (IsShort held name × Appends old new (profile_fault name))

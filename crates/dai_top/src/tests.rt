@@ -1,0 +1,91 @@
+use crate::settings::WordsError;
+use crate::top::distai;
+use crate::words::read_words;
+use dai_base::{Files, SureFiles, SureSink};
+use std::alloc::Global;
+use std::test::Fail;
+
+const TWO_FLAGS: &str =
+    "relation a\nrelation b\nafter init { a := false; b := true }\naction t = { require ~a; a := true; b := false }\nexport t\ninvariant [excl] ~(a & b)\n";
+
+/// The words of a line, between spaces.
+fn words_of(alloc: Global, line: &str) -> Result<Vec<String>, Fail> {
+    let mut words = Vec::new(alloc);
+    for word in line.split(' ') {
+        if !word.is_empty() {
+            words.push(String::from_str(alloc, word)?)?;
+        }
+    }
+    Ok(words)
+}
+
+#[test]
+fn answers_and_refusals(rt: HostRuntime) -> Result<(), Fail> {
+    let alloc = rt.alloc();
+    for (line, status, out_text, err_text) in [
+        (
+            "infer ab.ivy --lits 2",
+            0,
+            "invariant [d1] a | b\ninvariant [d2] ~a | ~b\nFOUND\n",
+            "",
+        ),
+        ("infer ab.ivy --lits 1", 1, "NOT FOUND excl\n", ""),
+        ("infer empty.ivy", 0, "FOUND\n", ""),
+        (
+            "infer typed.ivy",
+            2,
+            "",
+            "typed.ivy:1:1: E20 not in the profile\n",
+        ),
+        ("infer gone.ivy", 3, "", "gone.ivy: cannot be read\n"),
+        (
+            "infer ab.ivy --lits 9",
+            2,
+            "",
+            "distai: word 4: E02 value out of range\n",
+        ),
+        (
+            "infer ab.ivy --lits 2 --lits 3",
+            2,
+            "",
+            "distai: word 5: E01 bad words\n",
+        ),
+        ("", 2, "", "distai: word 1: E01 bad words\n"),
+    ] {
+        let words = words_of(alloc, line)?;
+        let mut files = SureFiles::new(alloc);
+        files
+            .hold("ab.ivy", TWO_FLAGS.as_bytes())
+            .ok()
+            .ok_or("memory")?;
+        files.hold("empty.ivy", b"").ok().ok_or("memory")?;
+        files.hold("typed.ivy", b"type t\n").ok().ok_or("memory")?;
+        let mut out = SureSink::new(alloc);
+        let mut err = SureSink::new(alloc);
+        let answer = distai(alloc, words.as_slice(), &mut files, &mut out, &mut err);
+        assert_eq!(rt; answer, status, "{line}");
+        assert_eq!(rt; out.bytes(), out_text.as_bytes(), "{line}");
+        assert_eq!(rt; err.bytes(), err_text.as_bytes(), "{line}");
+    }
+    Ok(())
+}
+
+#[test]
+fn words_are_read(rt: HostRuntime) -> Result<(), Fail> {
+    let alloc = rt.alloc();
+    for (line, number, word) in [
+        ("infer ab.ivy --fast yes", 1, 3),
+        ("infer ab.ivy --lits", 1, 4),
+        ("infer ab.ivy --lits=2", 1, 3),
+        ("infer -ab.ivy", 1, 2),
+        ("space ab.ivy", 1, 1),
+    ] {
+        let words = words_of(alloc, line)?;
+        let refusal = read_words(alloc, words.as_slice()).err();
+        assert!(rt; refusal == Some(WordsError::Bad { number, word }), "{line}");
+    }
+    let words = words_of(alloc, "infer ab.ivy --lits 0003")?;
+    let settings = read_words(alloc, words.as_slice()).ok().ok_or("refused")?;
+    assert_eq!(rt; settings.lits, 3);
+    Ok(())
+}
