@@ -1,0 +1,45 @@
+#!/bin/sh
+# Runs dai_dimacs and minisat on the same formulas, and prints the time of each, their ratio, the
+# propagations of each for a second where minisat prints them, and the ratio of those.
+#
+# usage: solver.sh PROGRAM [SECONDS]
+set -eu
+program=$1
+limit=${2:-60}
+here=$(dirname "$0")
+if ! command -v minisat > /dev/null; then
+    apt-get update -qq > /dev/null
+    apt-get install -y -qq minisat > /dev/null
+fi
+folder=$(mktemp -d)
+trap 'rm -rf "$folder"' EXIT
+python3 "$here/solver_formulas.py" "$folder"
+
+# The time of a command in seconds, its output in a file.
+timed() {
+    begin=$(date +%s.%N)
+    timeout "$limit" "$@" > "$folder/out" 2>&1 || status=$?
+    end=$(date +%s.%N)
+    echo "$begin $end" | awk '{ printf "%.3f", $2 - $1 }'
+}
+
+echo "cores: $(nproc)"
+row='%-18s %-6s %11s %9s %8s %13s %13s %6s\n'
+printf "$row" formula answer dai_dimacs minisat ratio 'our prop/s' 'its prop/s' ratio
+for path in "$folder"/*.cnf; do
+    name=$(basename "$path" .cnf)
+    ours=$(timed "$program" "$path")
+    answer=$(awk '/^s / { print substr($2, 1, 5) }' "$folder/out")
+    count=$(awk '/^c propagations/ { print $3 }' "$folder/out")
+    theirs=$(timed minisat "$path")
+    other=$(awk '/^(SAT|UNSAT)/ { print substr($1 "ISFIABLE", 1, 5) }' "$folder/out")
+    rate=$(awk '/^propagations/ { gsub(/[^0-9 ]/, ""); print $2 }' "$folder/out")
+    ratio=$(echo "$ours $theirs" | awk '{ printf "%.2f", $1 / $2 }')
+    own=$(echo "${count:-0} $ours" | awk '{ printf "%.0f", $1 / $2 }')
+    pace=$(echo "$own ${rate:-0}" | awk '$2 > 0 && $1 > 0 { printf "%.2f", $1 / $2 }')
+    printf "$row" "$name" "${answer:-none}" "$ours" "$theirs" "$ratio" "$own" "${rate:-}" "$pace"
+    if [ -n "$answer" ] && [ -n "$other" ] && [ "$answer" != "$other" ]; then
+        echo "the answers differ: $answer and $other" >&2
+        exit 1
+    fi
+done

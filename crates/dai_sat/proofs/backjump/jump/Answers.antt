@@ -1,0 +1,27 @@
+use Rattle.std.proofs.Common.{arith, ◌≡◌, ◌≤◌, ◌++◌, ◌∷◌, [], ℕ, List, get_or, sym, subst}
+use Rattle.dai_sat.specs.Trail.{AreImplied}
+use Rattle.dai_sat.proofs.Mirrors.{value_small}
+use Rattle.dai_sat.proofs.Forces.{forced_points, forced_cut, enters_points}
+use Rattle.dai_sat.proofs.Turns.{freed_by_cut, turn_falls, implied_push, unit_at_follows}
+use Rattle.dai_sat.proofs.backjump.jump.Goals as goal
+
+pub returns-clause-forced : goal.returns-clause-forced
+returns-clause-forced c =
+    let u = c.requires.unit in
+    let small = value_small c.args.trail.now (get_or c.args.codes.now 0 0) u.assigned in
+    let f = freed_by_cut c.args.trail.now c.cut.new.self c.args.target.place (get_or c.args.codes.now 0 0) c.cut.ensures.trail.mirror c.cut.ensures.cuts small u.freed in
+    let le : c.args.target.place ≤ c.args.trail.now.len = omega (arith, u.within) in
+    forced_points c.args.cnf.now c.cut.new.self c.assign.new.self _ _
+    (forced_cut c.args.cnf.now c.args.trail.now c.cut.new.self c.args.target.place c.requires.forced c.cut.ensures.cuts le)
+    (enters_points c.cut.new.self c.assign.new.self _ _ c.cut.ensures.trail.mirror f c.assign.ensures.enters)
+    (λ bits model agree differs. unit_at_follows c.args.cnf.now c.args.trail.now c.cut.new.self c.args.codes.now c.args.target.place c.requires.trail.mirror c.cut.ensures.trail.mirror c.cut.ensures.cuts c.requires.learned u bits model agree)
+
+pub returns-clause-implied : goal.returns-clause-implied
+returns-clause-implied c =
+    let e : c.add.new.self ≡ c.args.clauses.now ++ c.args.codes.now ∷ [] = c.in_ok-add.ensures.ok in
+    let P : List (List ℕ) → Type 0 = λ db. AreImplied c.args.cnf.now db in
+    subst P (sym e) (implied_push c.args.cnf.now c.args.clauses.now c.args.codes.now c.requires.implied c.requires.learned)
+
+pub returns-clause-rank : goal.returns-clause-rank
+returns-clause-rank c =
+    turn_falls c.args.trail.now c.cut.new.self c.assign.new.self c.args.target.place _ _ c.requires.trail.mirror c.requires.unit.within c.requires.unit.decision c.cut.ensures.cuts c.assign.ensures.enters (λ e. absurd (omega (arith, c.len-number.type_inv)))

@@ -1,0 +1,56 @@
+use Rattle.std.specs.Prelude.{◌≡◌, ◌/◌, ◌<◌, ◌≤◌, ◌⊎◌, ℕ, Bool, List, drop, length, slice_index}
+use Rattle.dai_sat.specs.declared.trail.Trail.{Trail}
+use Rattle.dai_sat.specs.declared.marks.Marks.{Marks}
+use Rattle.dai_sat.specs.Formula.{Formula, IsModelOf}
+use Rattle.dai_sat.specs.Codes.{Agrees, AreDenied}
+use Rattle.dai_sat.specs.Trail.{IsFalseIn, IsDecision, code_at, place_of}
+
+-- a variable is marked
+abbrev pub IsMarked : Marks → ℕ → Type 0
+IsMarked m var = slice_index m.stamps.items var ≡ m.stamp
+
+-- there is a stamp for each variable, and none is newer than now
+pub record AreStamps (m : Marks) (vars : ℕ) : Type 0 where
+  pub room : length m.stamps.items ≡ vars
+  pub positive : 0 < m.stamp
+  pub newest : (var : ℕ) → slice_index m.stamps.items var ≤ m.stamp
+
+-- for each marked variable its false literal was listed
+pub record AreListed (m : Marks) (t : Trail) : Type 0 where
+  pub listed : (var : ℕ) → IsMarked m var → (k : ℕ) × (k < length m.marked.items) × (slice_index m.marked.items k / 2 ≡ var) × IsFalseIn t (slice_index m.marked.items k)
+
+-- what was marked is marked
+pub record MarksMore (old new : Marks) : Type 0 where
+  pub more : (var : ℕ) → IsMarked old var → IsMarked new var
+
+-- one variable is not marked any more
+pub record Unmarks (old new : Marks) (var : ℕ) : Type 0 where
+  pub fewer : (u : ℕ) → IsMarked new u → IsMarked old u
+  pub others : (u : ℕ) → (u ≡ var → ⊥) → IsMarked old u → IsMarked new u
+  pub marked : new.marked.items ≡ old.marked.items
+
+-- a literal is false, and marked unless it is so by the formula alone
+abbrev pub IsCovered : Trail → Marks → ℕ → Type 0
+IsCovered t m code = IsFalseIn t code × (IsMarked m (code / 2) ⊎ (place_of t (code / 2) < t.root))
+
+-- no model makes each marked literal of the trail true
+pub record MarksRefute (formula : Formula) (t : Trail) (m : Marks) : Type 0 where
+  pub refutes : (bits : List Bool) → IsModelOf formula bits → ((i : ℕ) → i < t.len → IsMarked m (code_at t i / 2) → Agrees bits (code_at t i)) → ⊥
+
+-- each model makes some literal of the clause true
+pub record IsImplied (formula : Formula) (codes : List ℕ) : Type 0 where
+  pub implies : (bits : List Bool) → IsModelOf formula bits → AreDenied bits codes → ⊥
+
+-- each literal is false by a literal below a place
+pub record AreFalseBelow (t : Trail) (codes : List ℕ) (place : ℕ) : Type 0 where
+  pub lost : (k : ℕ) → k < length codes → IsFalseIn t (slice_index codes k)
+  pub below : (k : ℕ) → k < length codes → place_of t (slice_index codes k / 2) < place
+
+-- back at this place all literals of a clause but the first are false, and that one is free
+pub record IsUnitAt (t : Trail) (codes : List ℕ) (place : ℕ) : Type 0 where
+  pub within : place < t.len
+  pub decision : IsDecision t place
+  pub some : 0 < length codes
+  pub assigned : IsFalseIn t (slice_index codes 0)
+  pub freed : place ≤ place_of t (slice_index codes 0 / 2)
+  pub others : AreFalseBelow t (drop 1 codes) place

@@ -1,0 +1,123 @@
+ghost use Rattle.std.specs.Prelude.{◌≡◌, ◌<◌, ◌≤◌, false, ℕ, length, IsTrue, IfOk, OnOk};
+ghost use Rattle.dai_sat.specs.Formula.{IsUnsatisfiable};
+ghost use Rattle.dai_sat.specs.Trail.{IsTrail, IsForced, AreImplied, KeepsDecisions, IsRefuted, rank_of};
+ghost use Rattle.dai_sat.specs.Marks.{IsImplied, IsUnitAt, AreFalseBelow};
+
+use crate::cnf::Cnf;
+use crate::lists::Lists;
+use crate::trail::{DECISION, FLIPPED, Trail, negation};
+use crate::watches::Watches;
+use dai_base::Spent;
+
+/// Where a learned clause sends the trail back to.
+#[derive(Clone, Copy)]
+pub struct Target {
+    /// The place of the decision that goes.
+    pub place: usize,
+    /// The literal that is watched beside the first.
+    pub second: u32,
+}
+
+/// The decision after the last literal of the clause but the first, and that literal. It only guides.
+pub fn target_of(trail: &Trail, levels: &[usize], learned: &[u32]) -> Target {
+    let mut floor = 0;
+    let mut second = 0;
+    for code in learned.iter().skip(1) {
+        let place = trail.places.get(*code as usize / 2).copied().unwrap_or(0);
+        if place >= floor {
+            floor = place.saturating_add(1);
+            second = *code;
+        }
+    }
+    let mut place = trail.len;
+    for level in levels.iter().rev() {
+        if *level < floor {
+            break;
+        }
+        place = *level;
+    }
+    Target { place, second }
+}
+
+/// Whether each of the literals is false by a literal below the place.
+fn are_false_below(trail: &Trail, codes: &[u32], place: usize) -> bool
+    ensures { IsTrue result → AreFalseBelow trail.now codes.now place }
+{
+    for code in codes {
+        if !trail.is_false(*code) {
+            return false;
+        }
+        match trail.places.get(*code as usize / 2) {
+            Some(at) if *at < place => {}
+            _ => return false,
+        }
+    }
+    true
+}
+
+/// Whether a decision stands at the place, and back there the first literal of the clause is free and
+/// its others are false.
+pub fn is_unit_at(trail: &Trail, codes: &[u32], place: usize) -> bool
+    requires { IsTrail trail.now }
+    ensures { IsTrue result → IsUnitAt trail.now codes.now place }
+{
+    if codes.is_empty() || place >= trail.len || trail.reasons[place] != DECISION {
+        return false;
+    }
+    let first = codes[0];
+    if !trail.is_false(first) {
+        return false;
+    }
+    let at = trail.places[first as usize / 2];
+    at >= place && are_false_below(trail, &codes[1..], place)
+}
+
+/// Goes back to a place where the clause has one free literal, its first, and makes that one true.
+pub fn jump(
+    cnf: &Cnf,
+    clauses: &mut Lists<u32>,
+    watches: &mut Watches,
+    trail: &mut Trail,
+    codes: &[u32],
+    target: Target,
+) -> Result<(), Spent>
+    requires trail { IsTrail trail.old }
+    requires forced { IsForced cnf.now trail.old }
+    requires implied { AreImplied cnf.now clauses.old }
+    requires learned { IsImplied cnf.now codes.now }
+    requires unit { IsUnitAt trail.old codes.now target.place }
+    ensures trail { OnOk result (IsTrail trail.new) }
+    ensures forced { OnOk result (IsForced cnf.now trail.new) }
+    ensures implied { OnOk result (AreImplied cnf.now clauses.new) }
+    ensures kept { OnOk result (KeepsDecisions trail.old trail.new) }
+    ensures rank { OnOk result (rank_of trail.new < rank_of trail.old) }
+{
+    let first = codes[0];
+    clauses.add(codes)?;
+    let number = clauses.len() - 1;
+    watches.enter_pair(codes.len(), first, target.second)?;
+    trail.cut(target.place);
+    trail.assign(first, number);
+    Ok(())
+}
+
+/// Turns the last decision round, where no model makes each literal of the trail true. Without a decision
+/// the formula has no model, and the answer is false.
+pub fn flip(cnf: &Cnf, trail: &mut Trail) -> bool
+    requires trail { IsTrail trail.old }
+    requires forced { IsForced cnf.now trail.old }
+    requires refuted { IsRefuted cnf.now trail.old }
+    ensures trail { IsTrail trail.new }
+    ensures forced { IsForced cnf.now trail.new }
+    ensures kept { KeepsDecisions trail.old trail.new }
+    ensures rank { IsTrue result → rank_of trail.new < rank_of trail.old }
+    ensures none { (result ≡ false) → IsUnsatisfiable cnf.now }
+{
+    let Some(place) = trail.last_decision() else {
+        return false;
+    };
+    let code = trail.codes[place];
+    trail.cut(place);
+    trail.assign(negation(code), FLIPPED);
+    true
+}

@@ -1,0 +1,71 @@
+ghost use Rattle.std.specs.Prelude.{◌≡◌, ◌<◌, ◌++◌, ◌∷◌, [], length, OnOk, OnErr, slice_index_or};
+
+use dai_base::Spent;
+use std::alloc::Global;
+use std::marker::Model;
+
+/// Where a list stands among all items.
+#[derive(Clone, Copy)]
+pub struct Span {
+    pub start: usize,
+    pub end: usize,
+}
+
+/// A growing list of lists, held in one flat array. A contract sees the list of lists alone.
+#[derive(Drop)]
+pub struct Lists<T: Copy> {
+    items: Vec<T>,
+    spans: Vec<Span>,
+}
+
+impl<T: Copy> Model for Lists<T> {
+    ghost use Rattle.std.specs.Prelude.{List, length};
+
+    ghost Value = { List (List T) };
+
+    ghost use Rattle.dai_sat.specs.Lists.{lists_of, AreWithin};
+
+    ghost view = { λ s. lists_of s.items.items s.spans.items };
+
+    ghost invariant = { λ s. AreWithin (length s.items.items) s.spans.items };
+}
+
+impl<T: Copy> Lists<T> {
+    /// No list. Takes no memory.
+    pub fn new(alloc: Global) -> Lists<T>
+        ensures { result ≡ [] }
+    {
+        Lists {
+            items: Vec::new(alloc),
+            spans: Vec::new(alloc),
+        }
+    }
+
+    /// How many lists there are.
+    pub fn len(&self) -> usize
+        ensures { result ≡ length self.now }
+    {
+        self.spans.len()
+    }
+
+    /// The list of the given number.
+    pub fn list(&self, number: usize) -> &[T]
+        requires { number < length self.now }
+        ensures { result.now ≡ slice_index_or self.now number [] }
+    {
+        let span = self.spans[number];
+        &self.items[span.start..span.end]
+    }
+
+    /// Appends a list. After `Spent` the value is as it was.
+    pub fn add(&mut self, list: &[T]) -> Result<(), Spent>
+        ensures ok { OnOk result (self.new ≡ self.old ++ list.now ∷ []) }
+        ensures err { OnErr result (self.new ≡ self.old) }
+    {
+        let start = self.items.len();
+        self.items.extend_from_slice(list)?;
+        let end = self.items.len();
+        self.spans.push(Span { start, end })?;
+        Ok(())
+    }
+}
