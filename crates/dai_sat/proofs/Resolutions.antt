@@ -7,7 +7,7 @@ use Rattle.dai_sat.specs.declared.marks.Marks.{Marks}
 use Rattle.dai_sat.specs.Formula.{Formula, IsModelOf, value_at}
 use Rattle.dai_sat.specs.Codes.{digit, Agrees}
 use Rattle.dai_sat.specs.Trail.{value_in, code_at, place_of, IsTrail, IsForced, AreImplied}
-use Rattle.dai_sat.specs.Marks.{IsMarked, MarksMore, Unmarks, IsCovered, MarksRefute}
+use Rattle.dai_sat.specs.Marks.{IsMarked, MarksMore, Unmarks, IsCovered, IsRedundantAt, MarksRefute}
 use Rattle.dai_sat.proofs.Forces.{denied, lost_place, agrees_at}
 
 -- two facts of one result
@@ -69,3 +69,21 @@ marks_resolve f t m0 m1 m2 db c place code trail forced implied l refute unmarks
         | inr n ↦ agree i il (more.more (code_at t i / 2) (unmarks.others (code_at t i / 2) n marked))
       ]);
 }
+
+-- after the mark of a literal was taken away that follows from the other marked ones
+pub marks_drop : (f : Formula) (t : Trail) (m0 m1 : Marks) (db : List (List ℕ)) (place code : ℕ) → IsTrail t → IsForced f t → AreImplied f db → MarksRefute f t m0 → IsRedundantAt db t m0 place → Unmarks m0 m1 (code / 2) → place < t.len → code ≡ code_at t place → MarksRefute f t m1
+marks_drop f t m0 m1 db place code trail forced implied refute red unmarks within here =
+    let more : MarksMore m1 m1 = record { more = λ var h. h } in
+    marks_resolve f t m0 m1 m1 db red.number place code trail forced implied red.within refute unmarks more within here
+    (λ k kl.
+    elim (red.covers k kl) [
+      | inl e ↦ inl (ap (λ x. Some x) (here ∙ sym e))
+      | inr c ↦
+          inr (
+            c.covered.0,
+            elim c.covered.1 [
+              | inl marked ↦ inl (unmarks.others (get_or (get_or db red.number []) k 0 / 2) (λ e. c.other (e ∙ ap (λ x. x / 2) here)) marked)
+              | inr root ↦ inr root
+            ],
+          )
+    ])

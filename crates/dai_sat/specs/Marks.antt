@@ -1,4 +1,4 @@
-use Rattle.std.specs.Prelude.{◌≡◌, ◌/◌, ◌<◌, ◌≤◌, ◌⊎◌, ℕ, Bool, List, drop, length, slice_index}
+use Rattle.std.specs.Prelude.{◌≡◌, ◌/◌, ◌<◌, ◌≤◌, ◌⊎◌, ℕ, Bool, List, [], drop, length, slice_index, slice_index_or}
 use Rattle.dai_sat.specs.declared.trail.Trail.{Trail}
 use Rattle.dai_sat.specs.declared.marks.Marks.{Marks}
 use Rattle.dai_sat.specs.Formula.{Formula, IsModelOf}
@@ -32,6 +32,17 @@ pub record Unmarks (old new : Marks) (var : ℕ) : Type 0 where
 -- a literal is false, and marked unless it is so by the formula alone
 abbrev pub IsCovered : Trail → Marks → ℕ → Type 0
 IsCovered t m code = IsFalseIn t code × (IsMarked m (code / 2) ⊎ (place_of t (code / 2) < t.root))
+
+-- a literal is covered, and of another variable than a given one
+pub record IsCoveredBeside (t : Trail) (m : Marks) (apart code : ℕ) : Type 0 where
+  pub other : code / 2 ≡ apart / 2 → ⊥
+  pub covered : IsCovered t m code
+
+-- the other literals of some clause are covered, so that it makes the literal at a place true
+pub record IsRedundantAt (clauses : List (List ℕ)) (t : Trail) (m : Marks) (place : ℕ) : Type 0 where
+  pub number : ℕ
+  pub within : number < length clauses
+  pub covers : (k : ℕ) → k < length (slice_index_or clauses number []) → (slice_index (slice_index_or clauses number []) k ≡ code_at t place) ⊎ IsCoveredBeside t m (code_at t place) (slice_index (slice_index_or clauses number []) k)
 
 -- no model makes each marked literal of the trail true
 pub record MarksRefute (formula : Formula) (t : Trail) (m : Marks) : Type 0 where

@@ -7,6 +7,7 @@ use crate::cnf::Cnf;
 use crate::lists::Lists;
 use crate::marks::Marks;
 use crate::trail::{Trail, negation};
+use crate::uses::Uses;
 use dai_base::Spent;
 
 /// What is left of a conflict when it was resolved with reasons.
@@ -25,6 +26,7 @@ fn resolve_at(
     clauses: &Lists<u32>,
     trail: &Trail,
     marks: &mut Marks,
+    uses: &mut Uses,
     place: usize,
     start: usize,
 ) -> Result<bool, Spent>
@@ -43,6 +45,7 @@ fn resolve_at(
     if reason >= clauses.len() {
         return Ok(false);
     }
+    uses.note(reason);
     let code = trail.codes[place];
     marks.unmark(code as usize / 2);
     marks.mark_clause(trail, clauses.list(reason), Some(code), start)
@@ -54,6 +57,7 @@ fn begin(
     clauses: &Lists<u32>,
     trail: &Trail,
     marks: &mut Marks,
+    uses: &mut Uses,
     conflict: usize,
     start: usize,
 ) -> Result<bool, Spent>
@@ -68,6 +72,7 @@ fn begin(
     if conflict >= clauses.len() || !marks.restart() {
         return Ok(false);
     }
+    uses.note(conflict);
     marks.mark_clause(trail, clauses.list(conflict), None, start)
 }
 
@@ -78,6 +83,7 @@ pub fn resolve(
     clauses: &Lists<u32>,
     trail: &Trail,
     marks: &mut Marks,
+    uses: &mut Uses,
     conflict: usize,
     start: usize,
 ) -> Result<Resolved, Spent>
@@ -88,7 +94,7 @@ pub fn resolve(
     ensures stamps { OnOk result (AreStamps marks.new (length trail.now.values.items)) }
     ensures left { IfOk result (IsResolution cnf.now trail.now marks.new) }
 {
-    if !begin(cnf, clauses, trail, marks, conflict, start)? {
+    if !begin(cnf, clauses, trail, marks, uses, conflict, start)? {
         return Ok(Resolved::Stuck);
     }
     let mut end = trail.len;
@@ -96,7 +102,7 @@ pub fn resolve(
         if marks.open <= 1 {
             return Ok(Resolved::At(place));
         }
-        if !resolve_at(cnf, clauses, trail, marks, place, start)? {
+        if !resolve_at(cnf, clauses, trail, marks, uses, place, start)? {
             return Ok(Resolved::Stuck);
         }
         end = place;

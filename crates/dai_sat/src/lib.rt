@@ -10,11 +10,13 @@ pub mod guide;
 pub mod lists;
 pub mod load;
 pub mod marks;
+pub mod minimize;
 pub mod propagation;
 pub mod solver;
 #[cfg(test)]
 mod tests;
 pub mod trail;
+pub mod uses;
 pub mod watches;
 
 pub use answer::Answer;

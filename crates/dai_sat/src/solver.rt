@@ -13,8 +13,10 @@ use crate::guide::Guide;
 use crate::lists::Lists;
 use crate::load::{MOST_VARS, code_of, enter_units, load};
 use crate::marks::Marks;
+use crate::minimize::minimize;
 use crate::propagation::propagate;
 use crate::trail::{DECISION, Trail};
+use crate::uses::Uses;
 use crate::watches::Watches;
 use dai_base::Spent;
 use std::alloc::Global;
@@ -24,6 +26,7 @@ use std::alloc::Global;
 pub struct Desk {
     watches: Watches,
     marks: Marks,
+    uses: Uses,
     /// The places of the decisions. They only guide.
     levels: Vec<usize>,
     /// The clause that is being learned.
@@ -66,6 +69,7 @@ fn learn_and_jump(
     ensures rank { IfOk result (λ r. IsTrue r → rank_of trail.new < rank_of trail.old) }
     ensures none { IfOk result (λ r. (r ≡ false) → IsUnsatisfiable cnf.now) }
 {
+    minimize(cnf, clauses, trail, &mut desk.marks, place);
     learn(cnf, trail, &desk.marks, place, &mut desk.learned)?;
     let learned = desk.learned.as_slice();
     let target = target_of(trail, desk.levels.as_slice(), learned);
@@ -73,6 +77,8 @@ fn learn_and_jump(
         return Ok(flip(cnf, trail));
     }
     jump(cnf, clauses, &mut desk.watches, trail, learned, target)?;
+    desk.uses.enter(learned.len())?;
+    desk.uses.sweep(&mut desk.watches);
     Ok(true)
 }
 
@@ -99,7 +105,15 @@ fn recover(
     ensures none { IfOk result (λ r. (r ≡ false) → IsUnsatisfiable cnf.now) }
 {
     let start = desk.levels.last().copied().unwrap_or(0);
-    match resolve(cnf, clauses, trail, &mut desk.marks, conflict, start)? {
+    match resolve(
+        cnf,
+        clauses,
+        trail,
+        &mut desk.marks,
+        &mut desk.uses,
+        conflict,
+        start,
+    )? {
         Resolved::Refuted => Ok(false),
         Resolved::Stuck => Ok(flip(cnf, trail)),
         Resolved::At(place) => learn_and_jump(cnf, clauses, desk, trail, place),
@@ -237,12 +251,13 @@ fn advance(
 }
 
 /// The tables beside the trail.
-fn new_desk(alloc: Global, vars: usize) -> Result<Desk, Spent>
+fn new_desk(alloc: Global, vars: usize, clauses: usize) -> Result<Desk, Spent>
     ensures { IfOk result (λ d. AreStamps d.marks vars) }
 {
     Ok(Desk {
         watches: Watches::new(alloc, vars)?,
         marks: Marks::new(alloc, vars)?,
+        uses: Uses::new(alloc, clauses)?,
         levels: Vec::new(alloc),
         learned: Vec::new(alloc),
         propagations: 0,
@@ -274,7 +289,7 @@ pub fn solve_counted<F: Fn(usize) -> bool>(
     if vars > MOST_VARS {
         return Err(Spent);
     }
-    let mut desk = new_desk(alloc, vars)?;
+    let mut desk = new_desk(alloc, vars, cnf.clauses().len())?;
     let mut trail = Trail::new(alloc, vars)?;
     let mut clauses = load(alloc, cnf, &mut desk.watches)?;
     if enter_units(cnf, &clauses, &mut trail) && !flip(cnf, &mut trail) {
