@@ -1,9 +1,8 @@
-use Rattle.std.specs.Prelude.{◌≡◌, false}
-use Rattle.dai_sat.specs.Answers.{IsAnswerTo}
 use Rattle.dai_dimacs.specs.declared.judge.Verdict.{Verdict}
 use Rattle.dai_dimacs.specs.declared.judge.Verdict.TheVariants.{Judged, Malformed}
+use Rattle.dai_dimacs.specs.Reports.{IsReportOn}
 
--- a judgement has the least model of the formula that was read, or there is none
+-- the report is right for the formula that was read
 abbrev pub IsRight : Verdict → Type 0
-IsRight (Judged j) = IsAnswerTo j.cnf (λ var value. value ≡ false) j.answer
+IsRight (Judged j) = IsReportOn j.cnf j.report
 IsRight (Malformed line) = Unit {0}

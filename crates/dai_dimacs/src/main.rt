@@ -4,31 +4,12 @@
 
 mod judge;
 mod read;
+mod report;
 
 use dai_base::Spent;
-use dai_sat::Answer;
 use judge::{Verdict, judge};
-use std::alloc::{AllocError, Global};
 use std::process::ExitCode;
 use std::{env, fs, io};
-
-/// The text of an answer.
-fn text_of(alloc: Global, answer: &Answer) -> Result<String, AllocError> {
-    let mut text = String::new(alloc);
-    match answer {
-        Answer::Unsat => text.push_str("s UNSATISFIABLE\n")?,
-        Answer::Model(bits) => {
-            text.push_str("s SATISFIABLE\nv")?;
-            for (var, bit) in bits.iter().enumerate() {
-                let sign = if *bit { "" } else { "-" };
-                let name = var.saturating_add(1);
-                write!(&mut text, " {sign}{name}")?;
-            }
-            text.push_str(" 0\n")?;
-        }
-    }
-    Ok(text)
-}
 
 fn main(rt: HostRuntime) -> io::Result<ExitCode> {
     let mut words = env::args(&rt)?;
@@ -48,15 +29,8 @@ fn main(rt: HostRuntime) -> io::Result<ExitCode> {
             Ok(ExitCode::from(1))
         }
         Ok(Verdict::Judged(judgement)) => {
-            let count = judgement.propagations;
-            println!(rt; "c propagations {count}")?;
-            let answer = judgement.answer;
-            print!(rt; "{}", text_of(rt.alloc(), &answer)?)?;
-            Ok(ExitCode::from(if matches!(answer, Answer::Unsat) {
-                20
-            } else {
-                10
-            }))
+            print!(rt; "{}", judgement.report.text)?;
+            Ok(ExitCode::from(judgement.report.status))
         }
     }
 }

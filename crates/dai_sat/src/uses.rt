@@ -3,10 +3,10 @@ use dai_base::Spent;
 use std::alloc::Global;
 
 /// The conflicts before the first sweep.
-const FIRST_SPAN: usize = 1000;
+const FIRST_SPAN: usize = 300;
 
 /// By how many conflicts each span is longer than the one before.
-const MORE: usize = 100;
+const MORE: usize = 30;
 
 /// Whether a clause goes on being watched.
 #[derive(Clone, Copy, PartialEq, Eq)]
