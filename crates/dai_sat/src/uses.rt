@@ -2,11 +2,11 @@ use crate::watches::Watches;
 use dai_base::Spent;
 use std::alloc::Global;
 
-/// The conflicts before the first sweep.
-const FIRST_SPAN: usize = 300;
+/// The fewest conflicts before the first sweep.
+const LEAST_SPAN: usize = 200;
 
 /// By how many conflicts each span is longer than the one before.
-const MORE: usize = 30;
+const MORE: usize = 10;
 
 /// Whether a clause goes on being watched.
 #[derive(Clone, Copy, PartialEq, Eq)]
@@ -34,10 +34,11 @@ pub struct Uses {
 impl Uses {
     /// The uses of a formula with this many clauses.
     pub fn new(alloc: Global, clauses: usize) -> Result<Uses, Spent> {
+        let span = LEAST_SPAN.max(clauses / 4);
         Ok(Uses {
             standings: vec![in alloc; Standing::Kept; clauses]?,
-            span: FIRST_SPAN,
-            left: FIRST_SPAN,
+            span,
+            left: span,
         })
     }
 
