@@ -1,6 +1,7 @@
-#!/bin/sh
-# Runs dai_dimacs and minisat on the same formulas, and prints the time of each, their ratio, the
-# propagations of each for a second where minisat prints them, and the ratio of those.
+#!/usr/bin/env bash
+# Runs dai_dimacs and minisat on the same formulas, and prints the processor time of each, their ratio, the
+# propagations of each for a second where minisat prints them, and the ratio of those. A run ends unanswered
+# after SECONDS by the clock.
 #
 # usage: solver.sh PROGRAM [SECONDS]
 set -eu
@@ -15,12 +16,12 @@ folder=$(mktemp -d)
 trap 'rm -rf "$folder"' EXIT
 python3 "$here/solver_formulas.py" "$folder"
 
-# The time of a command in seconds, its output in a file.
+# The processor time of a command in seconds, its output in a file. Other work on the machine changes it less
+# than the time by the clock.
 timed() {
-    begin=$(date +%s.%N)
-    timeout "$limit" "$@" > "$folder/out" 2>&1 || status=$?
-    end=$(date +%s.%N)
-    echo "$begin $end" | awk '{ printf "%.3f", $2 - $1 }'
+    local TIMEFORMAT='%U %S'
+    { time timeout "$limit" "$@" > "$folder/out" 2>&1 || true; } 2> "$folder/time"
+    awk '{ time = $1 + $2; printf "%.3f", time < 0.001 ? 0.001 : time }' "$folder/time"
 }
 
 echo "cores: $(nproc)"
