@@ -6,7 +6,7 @@ use std::alloc::Global;
 const LEAST_SPAN: usize = 200;
 
 /// By how many conflicts each span is longer than the one before.
-const MORE: usize = 10;
+const MORE: usize = 1;
 
 /// Whether a clause goes on being watched.
 #[derive(Clone, Copy, PartialEq, Eq)]
@@ -19,8 +19,8 @@ enum Standing {
     Idle,
 }
 
-/// Which clauses took part in a conflict of late. Learned ones that did not are watched no more. Nothing
-/// that is proved rests on it.
+/// Which clauses took part in a conflict of late. Learned ones that did not are watched no more, and stay
+/// stored, since they may be reasons. Nothing that is proved rests on it.
 #[derive(Drop)]
 pub struct Uses {
     /// By clause.
