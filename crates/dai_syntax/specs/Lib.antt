@@ -1,0 +1,9 @@
+pub mod Placed
+pub mod Tree
+pub mod Trees
+pub mod Symbols
+pub mod Grammar
+pub mod Viable
+pub mod Reading
+pub mod Endings
+pub mod Effects

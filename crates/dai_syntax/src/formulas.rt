@@ -1,81 +1,231 @@
-//! Formulas: chains of `|`, of `&` and of operands, by recursive descent. A chain is read by a loop, so only
-//! brackets and `~` deepen the recursion.
+//! Formulas by recursive descent. A chain is read by a loop, so only what nests deepens the recursion.
+ghost use Rattle.std.specs.Prelude.{◌≡◌, ◌≤◌, ◌∷◌, [], IfOk, IfErr, Some};
+ghost use Rattle.dai_syntax.specs.Symbols.{formula, implication, disjunction, conjunction, operand, v_formula};
+ghost use Rattle.dai_syntax.specs.Trees.{formula_of};
+ghost use Rattle.dai_syntax.specs.Endings.{quantifier};
+ghost use Rattle.dai_syntax.specs.Reading.{Reads, FailsAt, kind_ahead};
+
+use crate::binders::{Class, binders, type_mark};
 use crate::cursor::Cursor;
 use crate::error::SyntaxError;
-use crate::tree::Form;
+use crate::terms::{Ending, atom_end, comparison, term};
+use crate::tree::{Arg, Form};
 use dai_lex::Kind;
+use std::alloc::{AllocError, AllocFailed, Global};
 
-/// A formula, within so many further levels of nesting.
+/// How deep constructs may nest.
+pub const MOST_LEVELS: u32 = 200;
+
+/// A formula, where so many constructs are open.
 #[cycle(formula)]
-pub fn formula(cursor: &mut Cursor, levels: u32) -> Result<Form, SyntaxError> {
-    let first = conjunction(cursor, levels)?;
-    if !cursor.is_at(Kind::Bar) {
+pub fn formula(cursor: &mut Cursor, depth: u32) -> Result<Form, SyntaxError>
+    requires { depth ≤ 200 }
+    ensures read { IfOk result (λ f. Reads (formula depth) cursor.old (v_formula (formula_of f)) cursor.new) }
+    ensures failed { IfErr result (FailsAt (formula depth) cursor.old) }
+{
+    let first = implication(cursor, depth)?;
+    if !cursor.take(Kind::DoubleArrow) {
         return Ok(first);
     }
-    let mut parts = Vec::new(cursor.alloc);
-    parts.push(first)?;
-    for _ in 0..cursor.rest.len() {
-        if !cursor.take(Kind::Bar) {
-            break;
-        }
-        parts.push(conjunction(cursor, levels)?)?;
+    let second = implication(cursor, depth)?;
+    let mut parts = pair(cursor.alloc, first, second)?;
+    while cursor.take(Kind::DoubleArrow) {
+        parts.push(implication(cursor, depth)?)?;
+    }
+    Ok(Form::Same { parts })
+}
+
+/// `->` groups to the right.
+#[cycle(formula)]
+fn implication(cursor: &mut Cursor, depth: u32) -> Result<Form, SyntaxError>
+    requires { depth ≤ 200 }
+    ensures read { IfOk result (λ f. Reads (implication depth) cursor.old (v_formula (formula_of f)) cursor.new) }
+    ensures failed { IfErr result (FailsAt (implication depth) cursor.old) }
+{
+    let left = disjunction(cursor, depth)?;
+    if !cursor.is_at(Kind::Arrow) {
+        return Ok(left);
+    }
+    if depth >= MOST_LEVELS {
+        return Err(cursor.too_deep());
+    }
+    let _arrow = cursor.pass(Kind::Arrow);
+    let right = implication(cursor, depth + 1)?;
+    Ok(Form::Implies {
+        left: Box::new(cursor.alloc, left)?,
+        right: Box::new(cursor.alloc, right)?,
+    })
+}
+
+#[cycle(formula)]
+fn disjunction(cursor: &mut Cursor, depth: u32) -> Result<Form, SyntaxError>
+    requires { depth ≤ 200 }
+    ensures read { IfOk result (λ f. Reads (disjunction depth) cursor.old (v_formula (formula_of f)) cursor.new) }
+    ensures failed { IfErr result (FailsAt (disjunction depth) cursor.old) }
+{
+    let first = conjunction(cursor, depth)?;
+    if !cursor.take(Kind::Bar) {
+        return Ok(first);
+    }
+    let second = conjunction(cursor, depth)?;
+    let mut parts = pair(cursor.alloc, first, second)?;
+    while cursor.take(Kind::Bar) {
+        parts.push(conjunction(cursor, depth)?)?;
     }
     Ok(Form::Any { parts })
 }
 
 #[cycle(formula)]
-fn conjunction(cursor: &mut Cursor, levels: u32) -> Result<Form, SyntaxError> {
-    let first = operand(cursor, levels)?;
-    if !cursor.is_at(Kind::Ampersand) {
+fn conjunction(cursor: &mut Cursor, depth: u32) -> Result<Form, SyntaxError>
+    requires { depth ≤ 200 }
+    ensures read { IfOk result (λ f. Reads (conjunction depth) cursor.old (v_formula (formula_of f)) cursor.new) }
+    ensures failed { IfErr result (FailsAt (conjunction depth) cursor.old) }
+{
+    let first = operand(cursor, depth)?;
+    if !cursor.take(Kind::Ampersand) {
         return Ok(first);
     }
-    let mut parts = Vec::new(cursor.alloc);
-    parts.push(first)?;
-    for _ in 0..cursor.rest.len() {
-        if !cursor.take(Kind::Ampersand) {
-            break;
-        }
-        parts.push(operand(cursor, levels)?)?;
+    let second = operand(cursor, depth)?;
+    let mut parts = pair(cursor.alloc, first, second)?;
+    while cursor.take(Kind::Ampersand) {
+        parts.push(operand(cursor, depth)?)?;
     }
     Ok(Form::All { parts })
 }
 
 #[cycle(formula)]
-fn operand(cursor: &mut Cursor, levels: u32) -> Result<Form, SyntaxError> {
-    match cursor.kind() {
-        Some(Kind::WordTrue) => {
-            cursor.pass();
+fn operand(cursor: &mut Cursor, depth: u32) -> Result<Form, SyntaxError>
+    requires { depth ≤ 200 }
+    ensures read { IfOk result (λ f. Reads (operand depth) cursor.old (v_formula (formula_of f)) cursor.new) }
+    ensures failed { IfErr result (FailsAt (operand depth) cursor.old) }
+{
+    let Some(kind) = cursor.kind() else {
+        return Err(cursor.refusal());
+    };
+    match kind {
+        Kind::WordTrue => {
+            let _word = cursor.pass(Kind::WordTrue);
             Ok(Form::Truth { value: true })
         }
-        Some(Kind::WordFalse) => {
-            cursor.pass();
+        Kind::WordFalse => {
+            let _word = cursor.pass(Kind::WordFalse);
             Ok(Form::Truth { value: false })
         }
-        Some(Kind::Lower) => Ok(Form::Atom {
-            name: cursor.name()?,
-            args: Vec::new(cursor.alloc),
-        }),
-        Some(Kind::Tilde) | Some(Kind::OpenRound) => {
-            if levels == 0 {
-                return Err(SyntaxError::Deep { at: cursor.place() });
-            }
-            nested(cursor, levels - 1)
-        }
+        Kind::Lower => atom(cursor, depth),
+        Kind::Upper => comparison_of_variable(cursor, depth),
+        Kind::Tilde => negation(cursor, depth),
+        Kind::OpenRound => bracket(cursor, depth),
+        Kind::WordForall => quantified(cursor, depth, Kind::WordForall, true),
+        Kind::WordExists => quantified(cursor, depth, Kind::WordExists, false),
         _ => Err(cursor.refusal()),
     }
 }
 
-/// What a `~` or a bracket begins, with the levels that are left inside.
 #[cycle(formula)]
-fn nested(cursor: &mut Cursor, levels: u32) -> Result<Form, SyntaxError> {
-    if cursor.take(Kind::Tilde) {
-        let body = operand(cursor, levels)?;
-        return Ok(Form::Not {
-            body: Box::new(cursor.alloc, body)?,
-        });
+fn negation(cursor: &mut Cursor, depth: u32) -> Result<Form, SyntaxError>
+    requires within { depth ≤ 200 }
+    requires ahead { kind_ahead cursor.old.rest.now ≡ Some Kind.Tilde }
+    ensures read { IfOk result (λ f. Reads (operand depth) cursor.old (v_formula (formula_of f)) cursor.new) }
+    ensures failed { IfErr result (FailsAt (operand depth) cursor.old) }
+{
+    if depth >= MOST_LEVELS {
+        return Err(cursor.too_deep());
     }
-    cursor.expect(Kind::OpenRound)?;
-    let inner = formula(cursor, levels)?;
+    let _sign = cursor.pass(Kind::Tilde);
+    let body = operand(cursor, depth + 1)?;
+    Ok(Form::Not {
+        body: Box::new(cursor.alloc, body)?,
+    })
+}
+
+#[cycle(formula)]
+fn bracket(cursor: &mut Cursor, depth: u32) -> Result<Form, SyntaxError>
+    requires within { depth ≤ 200 }
+    requires ahead { kind_ahead cursor.old.rest.now ≡ Some Kind.OpenRound }
+    ensures read { IfOk result (λ f. Reads (operand depth) cursor.old (v_formula (formula_of f)) cursor.new) }
+    ensures failed { IfErr result (FailsAt (operand depth) cursor.old) }
+{
+    if depth >= MOST_LEVELS {
+        return Err(cursor.too_deep());
+    }
+    let _sign = cursor.pass(Kind::OpenRound);
+    let inner = formula(cursor, depth + 1)?;
     cursor.expect(Kind::CloseRound)?;
     Ok(inner)
+}
+
+/// A quantifier reaches as far as its body can.
+#[cycle(formula)]
+fn quantified(
+    cursor: &mut Cursor,
+    depth: u32,
+    kind: Kind,
+    universal: bool,
+) -> Result<Form, SyntaxError>
+    requires within { depth ≤ 200 }
+    requires ahead { kind_ahead cursor.old.rest.now ≡ Some kind }
+    requires word { kind ≡ quantifier universal }
+    ensures read { IfOk result (λ f. Reads (operand depth) cursor.old (v_formula (formula_of f)) cursor.new) }
+    ensures failed { IfErr result (FailsAt (operand depth) cursor.old) }
+{
+    if depth >= MOST_LEVELS {
+        return Err(cursor.too_deep());
+    }
+    let word = cursor.pass(kind);
+    let variables = binders(cursor, Class::Variable)?;
+    cursor.expect(Kind::Dot)?;
+    let body = formula(cursor, depth + 1)?;
+    Ok(Form::Quant {
+        universal,
+        binders: variables,
+        body: Box::new(cursor.alloc, body)?,
+        at: word.start,
+    })
+}
+
+/// A relation with its arguments, or a comparison that begins with a name.
+fn atom(cursor: &mut Cursor, depth: u32) -> Result<Form, SyntaxError>
+    requires { kind_ahead cursor.old.rest.now ≡ Some Kind.Lower }
+    ensures read { IfOk result (λ f. Reads (operand depth) cursor.old (v_formula (formula_of f)) cursor.new) }
+    ensures failed { IfErr result (FailsAt (operand depth) cursor.old) }
+{
+    let name = cursor.word(Kind::Lower)?;
+    match atom_end(cursor)? {
+        Ending::Bare => Ok(Form::Atom {
+            name,
+            args: Vec::new(cursor.alloc),
+        }),
+        Ending::Applied(args) => Ok(Form::Atom { name, args }),
+        Ending::Compared(op, right) => Ok(Form::Compare {
+            left: Arg::Symbol { name },
+            op,
+            right,
+        }),
+    }
+}
+
+fn comparison_of_variable(cursor: &mut Cursor, depth: u32) -> Result<Form, SyntaxError>
+    requires { kind_ahead cursor.old.rest.now ≡ Some Kind.Upper }
+    ensures read { IfOk result (λ f. Reads (operand depth) cursor.old (v_formula (formula_of f)) cursor.new) }
+    ensures failed { IfErr result (FailsAt (operand depth) cursor.old) }
+{
+    let name = cursor.word(Kind::Upper)?;
+    let sort = type_mark(cursor, Class::Variable)?;
+    let op = comparison(cursor)?;
+    Ok(Form::Compare {
+        left: Arg::Variable { name, sort },
+        op,
+        right: term(cursor)?,
+    })
+}
+
+/// The first two parts of a chain.
+fn pair(alloc: Global, first: Form, second: Form) -> Result<Vec<Form>, SyntaxError>
+    ensures items { IfOk result (λ parts. parts.items ≡ first ∷ second ∷ []) }
+    ensures spent { IfErr result (λ e. e ≡ SyntaxError.Spent) }
+{
+    let mut parts = Vec::with_capacity(alloc, 2)?;
+    parts.push(first)?;
+    parts.push(second)?;
+    Ok(parts)
 }

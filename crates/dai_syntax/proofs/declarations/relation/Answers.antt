@@ -1,0 +1,13 @@
+use Rattle.dai_syntax.specs.Symbols.{declaration}
+use Rattle.dai_syntax.specs.Grammar.{a_relation}
+use Rattle.dai_syntax.proofs.Paths.{begins, takes, reads, reads_whole, fails, failed_result}
+use Rattle.dai_syntax.proofs.declarations.relation.Goals as goal
+
+pub returns-in_err-name-clause-failed : goal.returns-in_err-name-clause-failed
+returns-in_err-name-clause-failed c = failed_result declaration c.args.cursor.now c.from_residual.result c.in_err-name.field-0.0 c.from_residual.ensures.1 (λ stack. fails (takes (begins c.args.cursor.now) c.pass-word.ensures.steps c.pass-word.ensures.kind (λ limit high. a_relation)) c.in_err-name.ensures.failed)
+
+pub returns-in_err-bracketed-clause-failed : goal.returns-in_err-bracketed-clause-failed
+returns-in_err-bracketed-clause-failed c = failed_result declaration c.args.cursor.now c.from_residual-in_err-bracketed.result c.in_err-bracketed.field-0.0 c.from_residual-in_err-bracketed.ensures.1 (λ stack. fails (reads (takes (begins c.args.cursor.now) c.pass-word.ensures.steps c.pass-word.ensures.kind (λ limit high. a_relation)) c.in_ok-name.ensures.read) c.in_err-bracketed.ensures.failed)
+
+pub returns-clause-read : goal.returns-clause-read
+returns-clause-read c = reads_whole (λ stack. (reads (reads (takes (begins c.args.cursor.now) c.pass-word.ensures.steps c.pass-word.ensures.kind (λ limit high. a_relation)) c.in_ok-name.ensures.read) c.in_ok-bracketed.ensures.read))
