@@ -1,5 +1,12 @@
 pub mod Trees
-pub mod WellSorted
+pub mod Lists
 pub mod Numbers
-pub mod Meaning
+pub mod Naming
+pub mod Checking
+pub mod WellSorted
+pub mod Reading
 pub mod Directing
+pub mod Exits
+pub mod Meaning
+pub mod NewNames
+pub mod Mentions

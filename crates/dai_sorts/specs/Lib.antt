@@ -1,4 +1,6 @@
 pub mod Flags
-pub mod Drafts
+pub mod Vocabulary
 pub mod Numbers
 pub mod Meaning
+pub mod Files
+pub mod Drafts

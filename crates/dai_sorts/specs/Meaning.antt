@@ -1,45 +1,48 @@
--- What the formulas and the statements of a file stand for, by the names of its flags.
-use Rattle.std.specs.Prelude.{◌≡◌, ℕ, List, [], ◌∷◌}
+-- What the formulas and the statements of a file without types stand for.
+use Rattle.std.specs.Prelude.{◌≡◌, ℕ, false, List, []}
 use Rattle.dai_model.specs.Formula as Model
-use Rattle.dai_syntax.specs.declared.tree.Form.{Form, Truth, Atom, Compare, Not', All', Any', Implies', Same', Quant', Row_of-Form, end_of-Form, more_of-Form}
-use Rattle.dai_syntax.specs.declared.tree.Stat.{Stat, Require, Assign, Cond', Local', Row_of-Stat, end_of-Stat, more_of-Stat}
+use Rattle.dai_syntax.specs.Tree.{Formula, truth, atom, comparison, negation, conjunction, disjunction, equivalence, implication, quantified, Formulas, no_formulas, with_formula, Statement, requirement, assignment, conditional, with_locals, Statements, no_statements, with_statement}
 use Rattle.dai_sorts.specs.Numbers.{HasNumber}
+use Rattle.dai_sorts.specs.Vocabulary.{Vocabulary}
 
--- each atom is the relation of its name
+-- each atom is the relation of its name, and has no arguments
 abbrev mutual
-  pub Means : List (List ℕ) → Form → Model.Formula → Type 0
-  Means flags (Truth b) f = f ≡ Model.truth b
-  Means flags (Atom name args) f = (r : ℕ) × HasNumber flags name.text r × (f ≡ Model.relates r [])
-  Means flags (Compare a op b) f = ⊥
-  Means flags (Not' p g) f = (h : Model.Formula) × Means flags g h × (f ≡ Model.negation h)
-  Means flags (All' shape gs) f = (hs : Model.Formulas) × MeanRow flags gs hs × (f ≡ Model.conjunction hs)
-  Means flags (Any' shape gs) f = (hs : Model.Formulas) × MeanRow flags gs hs × (f ≡ Model.disjunction hs)
-  Means flags (Implies' p g q h) f = (a : Model.Formula) × (b : Model.Formula) × Means flags g a × Means flags h b × (f ≡ Model.implication a b)
-  Means flags (Same' shape gs) f = (hs : Model.Formulas) × MeanRow flags gs hs × (f ≡ Model.equivalence hs)
-  Means flags (Quant' universal binders p body at) f = ⊥
+  pub Means : List (List ℕ) → Formula → Model.Formula → Type 0
+  Means flags (truth b) f = f ≡ Model.truth b
+  Means flags (atom name arguments) f = (arguments ≡ []) × ((r : ℕ) × HasNumber flags name.text r × (f ≡ Model.relates r []))
+  Means flags (comparison a op b) f = ⊥
+  Means flags (negation g) f = (h : Model.Formula) × Means flags g h × (f ≡ Model.negation h)
+  Means flags (conjunction gs) f = (hs : Model.Formulas) × MeanEach flags gs hs × (f ≡ Model.conjunction hs)
+  Means flags (disjunction gs) f = (hs : Model.Formulas) × MeanEach flags gs hs × (f ≡ Model.disjunction hs)
+  Means flags (equivalence gs) f = (hs : Model.Formulas) × MeanEach flags gs hs × (f ≡ Model.equivalence hs)
+  Means flags (implication g h) f = (a : Model.Formula) × (b : Model.Formula) × Means flags g a × Means flags h b × (f ≡ Model.implication a b)
+  Means flags (quantified universal binders g at) f = ⊥
 
-  pub MeanRow : List (List ℕ) → {m : _} → Row_of-Form m → Model.Formulas → Type 0
-  MeanRow flags end_of-Form fs = fs ≡ Model.no_formulas
-  MeanRow flags (more_of-Form g gs) fs = (h : Model.Formula) × (hs : Model.Formulas) × Means flags g h × MeanRow flags gs hs × (fs ≡ Model.with_formula h hs)
+  pub MeanEach : List (List ℕ) → Formulas → Model.Formulas → Type 0
+  MeanEach flags no_formulas fs = fs ≡ Model.no_formulas
+  MeanEach flags (with_formula g gs) fs = (h : Model.Formula) × (hs : Model.Formulas) × Means flags g h × MeanEach flags gs hs × (fs ≡ Model.with_formula h hs)
 
--- the same of a list
-abbrev pub MeanEach : List (List ℕ) → List Form → Model.Formulas → Type 0
-MeanEach flags [] fs = fs ≡ Model.no_formulas
-MeanEach flags (g ∷ gs) fs = (h : Model.Formula) × (hs : Model.Formulas) × Means flags g h × MeanEach flags gs hs × (fs ≡ Model.with_formula h hs)
-
--- each assignment is to the relation of its name
+-- each assignment is to the relation of its name, which has no arguments and which no axiom names
 abbrev mutual
-  pub Directs : List (List ℕ) → Stat → Model.Statement → Type 0
-  Directs flags (Require g) c = (f : Model.Formula) × Means flags g f × (c ≡ Model.requirement f)
-  Directs flags (Assign name args g) c = (r : ℕ) × (f : Model.Formula) × HasNumber flags name.text r × Means flags g f × (c ≡ Model.update_relation r [] f)
-  Directs flags (Cond' g shape gs shape2 hs) c = (f : Model.Formula) × (first : Model.Statements) × (second : Model.Statements) × Means flags g f × DirectRow flags gs first × DirectRow flags hs second × (c ≡ Model.conditional f first second)
-  Directs flags (Local' binders shape body) c = ⊥
+  pub Directs : Vocabulary → Statement → Model.Statement → Type 0
+  Directs v (requirement g) c = (f : Model.Formula) × Means v.relations g f × (c ≡ Model.requirement f)
+  Directs v (assignment name arguments g) c = (arguments ≡ []) × (v.is_fixed name.text ≡ false) × ((r : ℕ) × (f : Model.Formula) × HasNumber v.relations name.text r × Means v.relations g f × (c ≡ Model.update_relation r [] f))
+  Directs v (conditional g first second) c = (f : Model.Formula) × (a : Model.Statements) × (b : Model.Statements) × Means v.relations g f × DirectEach v first a × DirectEach v second b × (c ≡ Model.conditional f a b)
+  Directs v (with_locals binders body) c = ⊥
 
-  pub DirectRow : List (List ℕ) → {m : _} → Row_of-Stat m → Model.Statements → Type 0
-  DirectRow flags end_of-Stat cs = cs ≡ Model.no_statements
-  DirectRow flags (more_of-Stat g gs) cs = (d : Model.Statement) × (ds : Model.Statements) × Directs flags g d × DirectRow flags gs ds × (cs ≡ Model.with_statement d ds)
+  pub DirectEach : Vocabulary → Statements → Model.Statements → Type 0
+  DirectEach v no_statements cs = cs ≡ Model.no_statements
+  DirectEach v (with_statement s ss) cs = (d : Model.Statement) × (ds : Model.Statements) × Directs v s d × DirectEach v ss ds × (cs ≡ Model.with_statement d ds)
 
--- the same of a list
-abbrev pub DirectEach : List (List ℕ) → List Stat → Model.Statements → Type 0
-DirectEach flags [] cs = cs ≡ Model.no_statements
-DirectEach flags (g ∷ gs) cs = (d : Model.Statement) × (ds : Model.Statements) × Directs flags g d × DirectEach flags gs ds × (cs ≡ Model.with_statement d ds)
+-- the tree stands for nothing
+abbrev pub IsMeaningless : List (List ℕ) → Formula → Type 0
+IsMeaningless flags g = (f : Model.Formula) → Means flags g f → ⊥
+
+abbrev pub AreMeaningless : List (List ℕ) → Formulas → Type 0
+AreMeaningless flags gs = (fs : Model.Formulas) → MeanEach flags gs fs → ⊥
+
+abbrev pub DirectsNothing : Vocabulary → Statement → Type 0
+DirectsNothing v s = (c : Model.Statement) → Directs v s c → ⊥
+
+abbrev pub DirectNothing : Vocabulary → Statements → Type 0
+DirectNothing v ss = (cs : Model.Statements) → DirectEach v ss cs → ⊥

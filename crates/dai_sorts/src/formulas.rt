@@ -1,26 +1,25 @@
 //! Formulas over flags.
-ghost use Rattle.std.specs.Prelude.{◌≡◌, ◌<◌, ◌≤◌, IfOk, IfErr};
+ghost use Rattle.std.specs.Prelude.{◌≢◌, ◌≤◌, IfOk, IfErr};
 ghost use Rattle.indexmap.specs.IndexSet.{index_set_len};
+ghost use Rattle.dai_syntax.specs.Trees.{formula_of as tree_of, formulas_of as trees_of};
 ghost use Rattle.dai_logic.specs.Trees.{formula_of, formulas_of};
 ghost use Rattle.dai_sorts.specs.Numbers.{flag_names, HasNumber, IsUnknown};
-ghost use Rattle.dai_sorts.specs.Meaning.{Means, MeanEach};
-ghost use Rattle.dai_sorts.specs.Flags.{NamesFlags, NameFlags};
+ghost use Rattle.dai_sorts.specs.Meaning.{Means, MeanEach, IsMeaningless, AreMeaningless};
 
 use crate::error::SortError;
 use crate::names::Names;
 use dai_logic::Formula;
-use dai_syntax::{Form, Name};
+use dai_syntax::{Arg, Form, Name};
 use std::alloc::Global;
 
 /// The number of the relation of this name; a name of no relation is refused.
 pub fn relation(names: &Names, name: &Name) -> Result<u8, SortError>
-    ensures within { IfOk result (λ r. r < index_set_len names.now.relations) }
-    ensures found { IfOk result (λ r. r < 255 → HasNumber (flag_names names.now) name.now.text r) }
+    requires { index_set_len names.now.relations ≤ 64 }
+    ensures found { IfOk result (HasNumber (flag_names names.now) name.now.text) }
     ensures unknown { IfErr result (λ _. IsUnknown (flag_names names.now) name.now.text) }
-    ensures fault { IfErr result (λ e. e ≡ SortError.Bad 22 name.now.at) }
 {
     match names.relation(name) {
-        Some(number) => Ok(number.min(255) as u8),
+        Some(number) => Ok(number as u8),
         None => Err(SortError::Bad {
             number: 22,
             at: name.at,
@@ -28,11 +27,12 @@ pub fn relation(names: &Names, name: &Name) -> Result<u8, SortError>
     }
 }
 
-/// The formula of the tree. Every atom names a relation of the file; other terms than flags are refused.
+/// The formula of the tree. Each atom has to be a relation of the file without arguments.
 #[cycle(formula)]
 pub fn formula(alloc: Global, names: &Names, form: &Form) -> Result<Formula, SortError>
-    ensures flags { IfOk result (λ f. NamesFlags (index_set_len names.now.relations) (formula_of f)) }
-    ensures meant { index_set_len names.now.relations ≤ 255 → IfOk result (λ f. Means (flag_names names.now) form.now (formula_of f)) }
+    requires { index_set_len names.now.relations ≤ 64 }
+    ensures meant { IfOk result (λ f. Means (flag_names names.now) (tree_of form.now) (formula_of f)) }
+    ensures refused { IfErr result (λ e. e ≢ SortError.Spent → IsMeaningless (flag_names names.now) (tree_of form.now)) }
 {
     match form {
         Form::Truth { value } => Ok(Formula::Truth(*value)),
@@ -57,7 +57,10 @@ pub fn formula(alloc: Global, names: &Names, form: &Form) -> Result<Formula, Sor
             Ok(Formula::Implies(left, right))
         }
         Form::Same { parts } => Ok(Formula::Iff(formulas(alloc, names, parts)?)),
-        Form::Compare { .. } => Err(SortError::Bad { number: 20, at: 0 }),
+        Form::Compare { left, .. } => Err(SortError::Bad {
+            number: 20,
+            at: place_of(left),
+        }),
         Form::Quant { at, .. } => Err(SortError::Bad {
             number: 20,
             at: *at,
@@ -67,12 +70,21 @@ pub fn formula(alloc: Global, names: &Names, form: &Form) -> Result<Formula, Sor
 
 #[cycle(formula)]
 fn formulas(alloc: Global, names: &Names, forms: &[Form]) -> Result<Vec<Formula>, SortError>
-    ensures flags { IfOk result (λ fs. NameFlags (index_set_len names.now.relations) (formulas_of fs.items)) }
-    ensures meant { index_set_len names.now.relations ≤ 255 → IfOk result (λ fs. MeanEach (flag_names names.now) forms.now (formulas_of fs.items)) }
+    requires { index_set_len names.now.relations ≤ 64 }
+    ensures meant { IfOk result (λ fs. MeanEach (flag_names names.now) (trees_of forms.now) (formulas_of fs.items)) }
+    ensures refused { IfErr result (λ e. e ≢ SortError.Spent → AreMeaningless (flag_names names.now) (trees_of forms.now)) }
 {
     let mut parts = Vec::new(alloc);
     for form in forms {
         parts.push(formula(alloc, names, form)?)?;
     }
     Ok(parts)
+}
+
+/// Where the argument stands.
+fn place_of(arg: &Arg) -> u32 {
+    match arg {
+        Arg::Variable { name, .. } => name.at,
+        Arg::Symbol { name } => name.at,
+    }
 }

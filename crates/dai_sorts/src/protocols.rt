@@ -1,9 +1,9 @@
 //! The finished protocol.
-ghost use Rattle.std.specs.Prelude.{◌≡◌, [], vec_len, IfOk};
-ghost use Rattle.std.specs.List.{All};
-ghost use Rattle.indexmap.specs.IndexSet.{index_set_len};
-ghost use Rattle.dai_logic.specs.Protocols.{protocol_of};
-ghost use Rattle.dai_sorts.specs.Flags.{IsFlagProtocol};
+ghost use Rattle.std.specs.Prelude.{◌≡◌, ◌≢◌, List, map, IfOk, IfErr};
+ghost use Rattle.dai_syntax.specs.Tree.{Declaration};
+ghost use Rattle.dai_logic.specs.Protocols.{relation_of, protocol_of};
+ghost use Rattle.dai_sorts.specs.Numbers.{flag_names, vocabulary_of};
+ghost use Rattle.dai_sorts.specs.Files.{flag, IsProtocolOf};
 ghost use Rattle.dai_sorts.specs.Drafts.{IsDraft};
 
 use crate::draft::Draft;
@@ -15,20 +15,20 @@ use std::alloc::Global;
 
 /// The protocol of what was read, with the relations of the names.
 pub fn protocol(alloc: Global, names: &Names, draft: Draft) -> Result<Protocol, SortError>
-    requires { IsDraft (index_set_len names.now.relations) draft }
-    ensures { IfOk result (λ p. IsFlagProtocol (protocol_of p)) }
+    ensures made { IfOk result (λ p. (ds : List Declaration) → IsDraft (vocabulary_of names.now) ds draft → IsProtocolOf (vocabulary_of names.now) ds (protocol_of p)) }
+    ensures spent { IfErr result (λ e. e ≡ SortError.Spent) }
 {
     let Draft {
+        axioms,
         init,
         actions,
         invariants,
-        ..
     } = draft;
     Ok(Protocol {
         sorts: Vec::new(alloc),
         relations: relations(alloc, names)?,
         individuals: Vec::new(alloc),
-        axioms: Vec::new(alloc),
+        axioms,
         init: Block {
             params: Vec::new(alloc),
             locals: Vec::new(alloc),
@@ -41,8 +41,8 @@ pub fn protocol(alloc: Global, names: &Names, draft: Draft) -> Result<Protocol, 
 
 /// A relation without arguments for each name.
 fn relations(alloc: Global, names: &Names) -> Result<Vec<RelInfo>, SortError>
-    ensures count { IfOk result (λ rs. vec_len rs ≡ index_set_len names.now.relations) }
-    ensures bare { IfOk result (λ rs. All (λ r. r.args.items ≡ []) rs.items) }
+    ensures named { IfOk result (λ rs. map relation_of rs.items ≡ map flag (flag_names names.now)) }
+    ensures spent { IfErr result (λ e. e ≡ SortError.Spent) }
 {
     let mut relations = Vec::new(alloc);
     for name in names.relations.iter() {

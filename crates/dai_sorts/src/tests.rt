@@ -2,9 +2,10 @@ ghost use Rattle.std.specs.Prelude.{◌≡◌};
 
 use crate::checker::check;
 use crate::error::SortError;
+use dai_base::Text;
 use dai_lex::lex;
 use dai_logic::Protocol;
-use dai_syntax::parse;
+use dai_syntax::{Decl, File, Form, Name, Stat, parse};
 use std::alloc::Global;
 use std::test::Fail;
 
@@ -61,12 +62,98 @@ fn refuses_faults(rt: HostRuntime) {
         ("relation p\nafter init { q := true }\n", 22, 24),
         ("export t\n", 22, 7),
         ("relation p\nexport p\n", 22, 18),
+        ("action t = { }\nrelation t\n", 21, 24),
+        ("action t = { q := true }\n", 22, 13),
     ] {
         match checked(rt.alloc(), text.as_bytes()) {
             Ok(_) => assert_eq!(rt; (0u8, 0u32), (number, at), "accepted"),
             Err(fault) => assert_eq!(rt; fault, (number, at)),
         }
     }
+}
+
+/// The labels and the names that `check` gives: an exported action once, in the order of the declarations.
+#[test]
+fn keeps_what_is_exported(rt: HostRuntime) -> Result<(), Fail> {
+    let text =
+        "export b\naction a = { }\naction b = { p := true }\nexport action c = { }\nexport b\nrelation p\ninvariant [x] p\ninvariant ~p\n";
+    match checked(rt.alloc(), text.as_bytes()) {
+        Ok(protocol) => {
+            assert_eq!(rt; protocol.actions.len(), 2);
+            if let Some(action) = protocol.actions.first() {
+                assert_eq!(rt; action.name.as_bytes(), b"b".as_slice());
+            }
+            assert_eq!(rt; protocol.invariants.len(), 2);
+            if let Some(invariant) = protocol.invariants.get(1) {
+                assert_eq!(rt; invariant.label.as_bytes(), b"2".as_slice());
+            }
+        }
+        Err((number, at)) => assert_eq!(rt; (number, at), (0, 0)),
+    }
+    Ok(())
+}
+
+/// A name at this offset.
+fn name(alloc: Global, text: &str, at: u32) -> Result<Name, Fail> {
+    Ok(Name {
+        text: Text::from_bytes(alloc, text.as_bytes())?,
+        at,
+    })
+}
+
+/// The relation of this name as a formula.
+fn atom(alloc: Global, text: &str) -> Result<Form, Fail> {
+    Ok(Form::Atom {
+        name: name(alloc, text, 9)?,
+        args: Vec::new(alloc),
+    })
+}
+
+/// Two relations, the axiom `p`, and an init that assigns the flag if `q` holds.
+fn file_with_axiom(alloc: Global, flag: &str) -> Result<File, Fail> {
+    let mut decls = Vec::new(alloc);
+    for text in ["p", "q"] {
+        decls.push(Decl::RelDecl {
+            name: name(alloc, text, 0)?,
+            args: Vec::new(alloc),
+        })?;
+    }
+    decls.push(Decl::AxiomDecl {
+        body: atom(alloc, "p")?,
+        at: 5,
+    })?;
+    let assignment = Stat::Assign {
+        name: name(alloc, flag, 7)?,
+        args: Vec::new(alloc),
+        body: Form::Truth { value: true },
+    };
+    let conditional = Stat::Cond {
+        cond: atom(alloc, "q")?,
+        yes: vec![in alloc; assignment]?,
+        no: Vec::new(alloc),
+    };
+    decls.push(Decl::InitDecl {
+        body: vec![in alloc; conditional]?,
+    })?;
+    Ok(File { decls })
+}
+
+#[test]
+fn spares_what_axioms_name(rt: HostRuntime) -> Result<(), Fail> {
+    let spared = file_with_axiom(rt.alloc(), "q")?;
+    match check(rt.alloc(), &spared) {
+        Ok(protocol) => {
+            assert_eq!(rt; protocol.axioms.len(), 1);
+            assert_eq!(rt; protocol.init.code.len(), 1);
+        }
+        Err(_) => assert_eq!(rt; 0, 1, "refused"),
+    }
+    let assigned = file_with_axiom(rt.alloc(), "p")?;
+    match check(rt.alloc(), &assigned) {
+        Ok(_) => assert_eq!(rt; 0, 1, "accepted"),
+        Err(error) => assert_eq!(rt; error, SortError::Bad { number: 27, at: 7 }),
+    }
+    Ok(())
 }
 
 /// A file of so many relations, at most a hundred, with names of two digits.

@@ -1,14 +1,10 @@
-use Rattle.std.proofs.Common.{◌≤◌, take}
-use Rattle.indexmap.specs.IndexSet.{index_set_len}
+use Rattle.std.proofs.Common.{take}
+use Rattle.dai_syntax.specs.Trees.{formulas_of as trees_of}
 use Rattle.dai_logic.specs.Trees.{formulas_of}
-use Rattle.dai_sorts.specs.Flags.{NameFlags}
 use Rattle.dai_sorts.specs.Numbers.{flag_names}
 use Rattle.dai_sorts.specs.Meaning.{MeanEach}
 use Rattle.dai_sorts.proofs.formulas.+formula.Given as goal
 
--- the formulas so far name flags alone, and mean the trees so far
+-- the formulas so far are what the trees so far mean
 abbrev pub invariant-formulas-loop-form : goal.invariant-formulas-loop-form
-invariant-formulas-loop-form l = record {
-  flags : NameFlags (index_set_len l.names.relations) (formulas_of l.parts.items);
-  meant : index_set_len l.names.relations ≤ 255 → MeanEach (flag_names l.names) (take l.form-index l.forms) (formulas_of l.parts.items);
-}
+invariant-formulas-loop-form l = MeanEach (flag_names l.names) (trees_of (take l.form-index l.forms)) (formulas_of l.parts.items)

@@ -1,10 +1,9 @@
-use Rattle.std.proofs.Common.{◌≡◌, ◌+◌, [], length, vec_len}
-use Rattle.std.specs.List.{All}
-use Rattle.indexmap.specs.IndexSet.{index_set_len}
+use Rattle.std.proofs.Common.{◌≡◌, ◌++◌, map}
+use Rattle.dai_logic.specs.Protocols.{relation_of}
+use Rattle.dai_sorts.specs.Numbers.{texts_of, flag_names}
+use Rattle.dai_sorts.specs.Files.{flag}
 use Rattle.dai_sorts.proofs.protocols.relations.Given as goal
 
+-- the relations so far, and those of the names that are left
 abbrev pub invariant-loop-name : goal.invariant-loop-name
-invariant-loop-name l = record {
-  count : vec_len l.relations + length l.name-iterator ≡ index_set_len l.names.relations;
-  bare : All (λ r. r.args.items ≡ []) l.relations.items;
-}
+invariant-loop-name l = map relation_of l.relations.items ++ map flag (texts_of l.name-iterator) ≡ map flag (flag_names l.names)
