@@ -1,5 +1,5 @@
 -- The whole check from its steps.
-use Rattle.std.proofs.Common.{◌≡◌, List, subst, sym}
+use Rattle.std.proofs.Common.{List, subst, sym}
 use Rattle.dai_model.specs.Protocol.{Protocol}
 use Rattle.dai_syntax.specs.Tree.{Declaration}
 use Rattle.dai_sorts.specs.declared.draft.Draft.{Draft}

@@ -1,5 +1,5 @@
 -- What the exit of a `?` says.
-use Rattle.std.proofs.Common.{◌≡◌, ◌≢◌, Result, Ok, Err, ◌∙◌, sym}
+use Rattle.std.proofs.Common.{◌≡◌, ◌≢◌, Result, Ok, Err, ◌∙◌}
 use Rattle.std.specs.Result.{IsErrAnd, IfErr, OnOk}
 use Rattle.dai_sorts.specs.declared.error.SortError.{SortError}
 use Rattle.dai_sorts.specs.declared.error.SortError.TheVariants.{Spent}

@@ -1,17 +1,16 @@
 -- The names after one more declaration.
-use Rattle.std.proofs.Common.{◌≡◌, ℕ, ◌<◌, ◌≤◌, ◌||◌, Bool, true, false, List, [], ◌∷◌, ◌++◌, length, Some, None, ap, sym, ◌∙◌, refl, subst, ◌⊎◌, inl, inr, ⊎_elim, arith, length-append}
+use Rattle.std.proofs.Common.{◌≡◌, ℕ, ◌<◌, ◌≤◌, ◌||◌, Bool, true, false, List, [], ◌∷◌, ◌++◌, length, None, ap, sym, ◌∙◌, refl, subst, ◌⊎◌, inl, inr, arith, length-append}
 use Rattle.std.specs.List.{IsDistinct, AllByRecursion, list_any, filter_map}
 use Rattle.std.specs.Cmp.Lexicographic.{nat_list_eq_equiv}
-use Rattle.std.proofs.lemmas.List.Folds.{list_any-append}
 use Rattle.std.proofs.lemmas.List.Elements.{filter_map-append}
 use Rattle.std.proofs.lemmas.Map.Keys.{IsDistinct-push, IsDistinct-head, IsDistinct-tail}
 use Rattle.std.proofs.lemmas.Slice.Eq.{bytes_eq-Decides}
 use Rattle.dai_syntax.specs.declared.tree.Name.{Name}
 use Rattle.dai_syntax.specs.declared.tree.Binder.{Binder}
-use Rattle.dai_syntax.specs.Tree.{Formula, Statements, Declaration, sort, relation, individual, axiom_of, init, action, export, invariant}
+use Rattle.dai_syntax.specs.Tree.{Statements, Declaration, sort, relation, individual, axiom_of, init, action, export, invariant}
 use Rattle.dai_sorts.specs.Vocabulary.{Vocabulary, file_vocabulary, same_name, is_among, mentions, relation_name, action_name, declared_name, exported_name, axiom_body}
 use Rattle.dai_sorts.specs.Files.{AreNamedApart}
-use Rattle.dai_sorts.proofs.Numbers.{among_push, or_false, or_assoc}
+use Rattle.dai_sorts.proofs.Numbers.{or_assoc}
 use Rattle.dai_sorts.proofs.Lists.{filter_map-gains, filter_map-passes, length-filter_map-front}
 
 or_swap : (a b c : Bool) → (a || (b || c)) ≡ (b || (a || c))

@@ -8,7 +8,7 @@ use Rattle.dai_syntax.specs.Tree.{Formula, Statements, Declaration, relation, ax
 use Rattle.dai_syntax.specs.declared.tree.Decl.{Decl}
 use Rattle.dai_syntax.specs.Trees.{declaration_of}
 use Rattle.dai_sorts.specs.declared.names.Names.{Names}
-use Rattle.dai_sorts.specs.Vocabulary.{Vocabulary, file_vocabulary, same_name, is_among, mentions, relation_name, action_name, declared_name, exported_name, axiom_body}
+use Rattle.dai_sorts.specs.Vocabulary.{Vocabulary, same_name, is_among, mentions, relation_name, action_name, declared_name, exported_name, axiom_body}
 use Rattle.dai_sorts.specs.Numbers.{texts_of, vocabulary_of}
 use Rattle.dai_sorts.specs.Files.{AreNamedApart}
 use Rattle.dai_sorts.specs.Drafts.{IsVocabulary, CanNotAddNames}

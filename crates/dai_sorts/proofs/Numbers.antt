@@ -1,5 +1,5 @@
 -- The number of a name from the position of its key.
-use Rattle.std.proofs.Common.{◌≡◌, ℕ, ◌<◌, Bool, true, false, List, length, get_or, Some, None, Option, not, ◌||◌, [], ◌∷◌, ◌++◌, refl, if◌then◌else◌, slice_get, nat_eq, ap, sym, ◌∙◌, subst, inl, inr, Vec, arith}
+use Rattle.std.proofs.Common.{◌≡◌, ℕ, ◌<◌, Bool, true, false, List, length, get_or, Some, None, Option, ◌||◌, [], ◌∷◌, ◌++◌, refl, if◌then◌else◌, slice_get, nat_eq, ap, sym, ◌∙◌, subst, inl, inr, Vec, arith}
 use Rattle.std.specs.declared.alloc.Global.{Global}
 use Rattle.std.specs.List.{position, list_any}
 use Rattle.std.specs.Option.{option_map, is_some, IfSome, IfNone}

@@ -1,16 +1,15 @@
 -- The draft after one more declaration.
 use Rattle.std.proofs.Common.{◌≡◌, ℕ, ◌+◌, ◌<◌, ◌≤◌, Bool, true, false, List, [], ◌∷◌, ◌++◌, length, get_or, take, drop, map, Option, None, Some, filter, ap, sym, ◌∙◌, refl, subst, arith, length-append}
-use Rattle.std.specs.List.{All, AllZip, filter_map, enumerate_from}
+use Rattle.std.specs.List.{AllZip, filter_map, enumerate_from}
 use Rattle.std.proofs.lemmas.List.{map-append, length-map}
 use Rattle.std.proofs.lemmas.List.FromFn.{length-enumerate_from}
 use Rattle.std.proofs.lemmas.List.Elements.{All-nil, All-push, All-contains, Contains-push}
-use Rattle.dai_model.specs.Formula as Model
 use Rattle.dai_model.specs.Protocol.{Protocol}
 use Rattle.dai_syntax.specs.declared.tree.Name.{Name}
 use Rattle.dai_syntax.specs.declared.tree.Binder.{Binder}
 use Rattle.dai_syntax.specs.declared.tree.Decl.{Decl}
 use Rattle.dai_syntax.specs.Trees.{declaration_of}
-use Rattle.dai_syntax.specs.Tree.{Formula, Statements, no_statements, with_statement, Declaration, sort, relation, individual, axiom_of, init, action, export, invariant}
+use Rattle.dai_syntax.specs.Tree.{Formula, Statements, no_statements, with_statement, Declaration, relation, axiom_of, init, action, export, invariant}
 use Rattle.dai_logic.specs.declared.protocol.Formula as Logic
 use Rattle.dai_logic.specs.declared.protocol.Step.{Step}
 use Rattle.dai_logic.specs.declared.protocol.Action.{Action}

@@ -1,5 +1,5 @@
 -- The trees of lists of formulas and of statements, in the model and as they are written.
-use Rattle.std.proofs.Common.{◌≡◌, List, [], ◌∷◌, ap, ◌∙◌, refl, Vec}
+use Rattle.std.proofs.Common.{◌≡◌, ap, ◌∙◌, refl, Vec}
 use Rattle.std.specs.declared.alloc.Global.{Global}
 use Rattle.dai_model.specs.Formula as Model
 use Rattle.dai_syntax.specs.Tree as Tree

@@ -1,5 +1,5 @@
 -- A file without types is a well-sorted protocol.
-use Rattle.std.proofs.Common.{◌≡◌, ℕ, ◌<◌, ◌||◌, Bool, true, false, List, [], ◌∷◌, length, map, get_or, Some, slice_get, nat_eq, IsTrue, ap, sym, ◌∙◌, refl, subst, ◌⊎◌, inl, inr, arith}
+use Rattle.std.proofs.Common.{◌≡◌, ℕ, ◌<◌, ◌||◌, Bool, true, false, List, [], ◌∷◌, length, map, get_or, Some, slice_get, nat_eq, ap, sym, ◌∙◌, refl, subst, ◌⊎◌, inl, inr, arith}
 use Rattle.std.specs.List.{All, AllZip, filter, filter_map, enumerate_from, list_any}
 use Rattle.std.specs.Option.{option_map}
 use Rattle.std.proofs.lemmas.Option.{slice_get-map}
@@ -9,7 +9,7 @@ use Rattle.std.proofs.lemmas.Slice.Eq.{bytes_eq-Decides}
 use Rattle.dai_model.specs.Formula as Model
 use Rattle.dai_model.specs.Formula.{Term}
 use Rattle.dai_model.specs.Protocol.{Protocol, Relation, Block, Action, Invariant}
-use Rattle.dai_model.specs.WellSorted.{Scope, scope_of, closed_scope, RelatesWell, IsWellSorted, AreWellSorted, UpdatesWell, HaveSorts, target_scope, IsWellSortedStatement, IsWellSortedCode, IsWellSortedBlock, SparesAxioms, Symbol, a_relation, an_individual, is_relation, names, some_names, assigns, some_assigns}
+use Rattle.dai_model.specs.WellSorted.{Scope, scope_of, closed_scope, RelatesWell, IsWellSorted, AreWellSorted, UpdatesWell, HaveSorts, IsWellSortedStatement, IsWellSortedCode, IsWellSortedBlock, SparesAxioms, Symbol, a_relation, an_individual, is_relation, names, some_names, assigns, some_assigns}
 use Rattle.dai_syntax.specs.Tree.{Formula, truth, atom, comparison, negation, conjunction, disjunction, equivalence, implication, quantified, Formulas, no_formulas, with_formula, Statement, requirement, assignment, conditional, with_locals, Statements, no_statements, with_statement, Declaration}
 use Rattle.dai_sorts.specs.Flags.{IsFlagProtocol}
 use Rattle.dai_sorts.specs.Numbers.{HasNumber}

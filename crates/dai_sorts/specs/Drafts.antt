@@ -1,5 +1,5 @@
 -- What holds of the names and of a draft after some of the declarations.
-use Rattle.std.specs.Prelude.{◌≡◌, ℕ, Bool, List, [], ◌∷◌, ◌++◌, map}
+use Rattle.std.specs.Prelude.{◌≡◌, List, [], ◌∷◌, ◌++◌, map}
 use Rattle.dai_model.specs.Protocol as Model
 use Rattle.dai_syntax.specs.Tree.{Declaration}
 use Rattle.dai_logic.specs.Trees.{formula_of, statements_of}

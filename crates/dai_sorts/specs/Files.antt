@@ -47,7 +47,7 @@ pub record AreFlagDeclarations (v : Vocabulary) (ds : List Declaration) : Type 0
   pub few_axioms : length (filter_map axiom_body ds) ≤ 64
   pub few_invariants : length (filter_map labelled_body ds) ≤ 64
 
--- no name is declared twice
+-- no name is declared twice: relations and actions share one set of names
 pub record AreNamedApart (ds : List Declaration) : Type 0 where
   pub distinct : IsDistinct same_name (filter_map declared_name ds)
   pub few_relations : length (filter_map relation_name ds) ≤ 64
@@ -58,6 +58,7 @@ abbrev pub label_at : ℕ → Option Name → List ℕ
 label_at position (Some name) = name.text
 label_at position None = decimal position
 
+-- an action without parameters and choices
 abbrev pub IsActionOf : Vocabulary → List ℕ × Statements → Action → Type 0
 IsActionOf v written a = (a.name ≡ written.0) × (a.block.parameters ≡ []) × (a.block.choices ≡ []) × DirectEach v written.1 a.block.code
 
@@ -72,6 +73,7 @@ pub record AreParts (v : Vocabulary) (ds : List Declaration) (P : Protocol) : Ty
   pub actions : AllZip (IsActionOf v) (filter (λ written. v.is_exported written.0) (filter_map named_body ds)) P.actions
   pub invariants : AllZip (IsInvariantOf v) (enumerate_from 1 (filter_map labelled_body ds)) P.invariants
 
+-- the relation of this name, without arguments
 abbrev pub flag : List ℕ → Relation
 flag name = record { name = name; arguments = [] }
 

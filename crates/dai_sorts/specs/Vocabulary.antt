@@ -4,6 +4,7 @@ use Rattle.std.specs.List.{list_any, filter_map}
 use Rattle.std.specs.Cmp.Lexicographic.{pointwise}
 use Rattle.dai_syntax.specs.Tree.{Formula, truth, atom, comparison, negation, conjunction, disjunction, equivalence, implication, quantified, Formulas, no_formulas, with_formula, Declaration, relation, action, axiom_of, export}
 
+-- whether two names are the same, and whether a name is one of several
 abbrev pub same_name : List ℕ → List ℕ → Bool
 same_name = pointwise nat_eq
 

@@ -1,4 +1,4 @@
-use Rattle.std.proofs.Common.{◌∙◌, ap, map}
+use Rattle.std.proofs.Common.{ap, map}
 use Rattle.dai_logic.specs.Protocols.{sort_of, individual_of}
 use Rattle.dai_sorts.proofs.protocols.protocol.Goals as goal
 

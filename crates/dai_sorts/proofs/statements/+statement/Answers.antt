@@ -1,4 +1,4 @@
-use Rattle.dai_syntax.specs.Trees.{formula_of as formula_tree, statement_of as tree_of, statements_of as trees_of}
+use Rattle.dai_syntax.specs.Trees.{statement_of as tree_of, statements_of as trees_of}
 use Rattle.dai_sorts.specs.Meaning.{DirectsNothing, DirectNothing}
 use Rattle.dai_sorts.specs.Numbers.{vocabulary_of}
 use Rattle.dai_sorts.proofs.Exits.{refused_by}

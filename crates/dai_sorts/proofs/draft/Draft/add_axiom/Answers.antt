@@ -1,7 +1,7 @@
 use Rattle.std.proofs.Common.{refl, rules}
 use Rattle.dai_syntax.specs.Tree as Tree
 use Rattle.dai_syntax.specs.Trees.{formula_of as tree_of}
-use Rattle.dai_sorts.specs.Numbers.{flag_names, vocabulary_of}
+use Rattle.dai_sorts.specs.Numbers.{vocabulary_of}
 use Rattle.dai_sorts.specs.Meaning.{IsMeaningless}
 use Rattle.dai_sorts.specs.Drafts.{CanNotAdd}
 use Rattle.dai_sorts.proofs.Exits.{refused_by}

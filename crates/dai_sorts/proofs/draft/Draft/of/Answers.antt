@@ -1,4 +1,4 @@
-use Rattle.std.proofs.Common.{◌≡◌, sym, subst, map}
+use Rattle.std.proofs.Common.{sym, subst, map}
 use Rattle.dai_syntax.specs.Trees.{declaration_of, declarations_of}
 use Rattle.dai_sorts.specs.Numbers.{vocabulary_of}
 use Rattle.dai_sorts.specs.Files.{AreFlagDeclarations}

@@ -1,4 +1,4 @@
-use Rattle.std.proofs.Common.{◌≡◌, ◌∙◌, refl, sym, ap, subst, ◌++◌, ◌∷◌, []}
+use Rattle.std.proofs.Common.{◌∙◌, refl, sym, ap, subst, ◌++◌, ◌∷◌, []}
 use Rattle.std.proofs.lemmas.Result.{IfErr-weaker}
 use Rattle.dai_syntax.specs.Tree as Tree
 use Rattle.dai_syntax.specs.Trees.{declaration_of, formula_of, statements_of}
