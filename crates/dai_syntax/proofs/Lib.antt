@@ -8,3 +8,4 @@ pub mod Rows
 pub mod Deep
 pub mod Blocks
 pub mod Files
+pub mod Fronts

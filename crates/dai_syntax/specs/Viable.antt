@@ -57,3 +57,8 @@ pub data IsSyntaxFault (bytes : List ℕ) (tokens : List Token) : SyntaxError �
 -- a refusal is the fault of the tokens, or want of memory
 abbrev pub IsSyntaxError : List ℕ → List Token → SyntaxError → Type 0
 IsSyntaxError bytes tokens e = (e ≡ Spent) ⊎ IsSyntaxFault bytes tokens e
+
+-- Tokens have one fault at most, and none where they are a file.
+pub record HaveOneVerdict (bytes : List ℕ) (tokens : List Token) : Type 0 where
+  pub fault : (e other : SyntaxError) → IsSyntaxFault bytes tokens e → IsSyntaxFault bytes tokens other → e ≡ other
+  pub apart : (ds : List Declaration) (e : SyntaxError) → IsFile bytes tokens ds → IsSyntaxFault bytes tokens e → ⊥

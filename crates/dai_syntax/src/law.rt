@@ -1,10 +1,15 @@
-//! A law of the grammar, for callers.
+//! Laws of the grammar, for callers.
 ghost use Rattle.std.specs.Prelude.{ℕ, ◌≡◌, List};
 ghost use Rattle.dai_lex.specs.declared.token.Token.{Token};
 ghost use Rattle.dai_syntax.specs.Tree.{Declaration};
-ghost use Rattle.dai_syntax.specs.Viable.{IsFile, IsSyntaxFault};
+ghost use Rattle.dai_syntax.specs.Viable.{HaveOneVerdict, IsFile};
 
 /// Tokens are one file at most.
 pub fn one_file()
     ensures { (bytes : List ℕ) (tokens : List Token) (some others : List Declaration) → IsFile bytes tokens some → IsFile bytes tokens others → some ≡ others }
+{}
+
+/// Tokens have one fault at most, and none where they are a file.
+pub fn one_fault()
+    ensures { (bytes : List ℕ) (tokens : List Token) → HaveOneVerdict bytes tokens }
 {}
