@@ -3,6 +3,7 @@ ghost use Rattle.std.specs.Prelude.{◌≡◌, ◌≤◌, length};
 
 use crate::clause::{Atom, Shape};
 use crate::listing::count;
+use dai_base::Spent;
 use dai_logic::Protocol;
 use std::alloc::{AllocError, AllocFailed, Global};
 
@@ -45,6 +46,12 @@ impl<T: Drop> From<AllocFailed<T>> for SpaceError {
     }
 }
 
+impl From<Spent> for SpaceError {
+    fn from(_error: Spent) -> SpaceError {
+        SpaceError::Spent
+    }
+}
+
 /// The most atoms of a shape, and the most clauses of a space.
 const MOST_ATOMS: usize = 64;
 
@@ -74,8 +81,17 @@ impl Space {
         if templates > MOST_TEMPLATES {
             return Err(SpaceError::Templates { count: templates });
         }
+        Ok(Space::of_flags(alloc, protocol, lits)?)
+    }
+
+    /// The space of a protocol that declares no type and at most 64 relations: one shape, without variables,
+    /// whose atoms are the relations in order. At most ten relations are within the limits of a space.
+    pub fn of_flags(alloc: Global, protocol: &Protocol, lits: u8) -> Result<Space, Spent>
+        requires few { length protocol.now.relations.items ≤ 64 }
+        requires literals { lits ≤ 8 }
+    {
         let mut atoms = Vec::new(alloc);
-        for rel in 0..relations as u8 {
+        for rel in 0..protocol.relations.len() as u8 {
             atoms.push(Atom::Tuple {
                 rel,
                 vars: Vec::new(alloc),

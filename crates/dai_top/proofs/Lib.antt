@@ -1,3 +1,5 @@
 pub mod Digits
 pub mod Closed
 pub mod WordLemmas
+pub mod Held
+pub mod Refusals

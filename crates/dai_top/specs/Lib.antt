@@ -1,3 +1,5 @@
 pub mod Words
 pub mod Readings
+pub mod Refusals
+pub mod Reports
 pub mod Outcome

@@ -8,6 +8,22 @@ use std::test::Fail;
 const TWO_FLAGS: &str =
     "relation a\nrelation b\nafter init { a := false; b := true }\naction t = { require ~a; a := true; b := false }\nexport t\ninvariant [excl] ~(a & b)\n";
 
+const SWAP: &str =
+    "relation x\nrelation y\nrelation bad\nafter init { x := true; y := false; bad := false }\naction u = {\n  if x { x := false; y := true } else { x := true; y := false }\n}\naction t = { require x & y; bad := true }\nexport u\nexport t\ninvariant [safe] ~bad\n";
+
+/// The files that are held.
+const HELD: [(&str, &str); 9] = [
+    ("ab.ivy", TWO_FLAGS),
+    ("swap.ivy", SWAP),
+    ("none.ivy", "relation p\naxiom p & ~p\n"),
+    ("empty.ivy", ""),
+    ("typed.ivy", "type t\n"),
+    ("byte.ivy", "relation p$"),
+    ("token.ivy", "relation p q"),
+    ("end.ivy", "relation p\naction a = { p :="),
+    ("left.ivy", "relation p\naction a = { p := * }"),
+];
+
 /// The words of a line, between spaces.
 fn words_of(alloc: Global, line: &str) -> Result<Vec<String>, Fail> {
     let mut words = Vec::new(alloc);
@@ -37,6 +53,33 @@ fn answers_and_refusals(rt: HostRuntime) -> Result<(), Fail> {
             "",
             "typed.ivy:1:1: E20 not in the profile\n",
         ),
+        ("infer byte.ivy", 2, "", "byte.ivy:1:11: E10 bad byte\n"),
+        (
+            "infer token.ivy",
+            2,
+            "",
+            "token.ivy:1:12: E12 unexpected token\n",
+        ),
+        (
+            "infer end.ivy",
+            2,
+            "",
+            "end.ivy:2:18: E12 unexpected token\n",
+        ),
+        (
+            "infer left.ivy",
+            2,
+            "",
+            "left.ivy:2:19: E20 not in the profile\n",
+        ),
+        ("infer none.ivy", 0, "invariant [d1] false\nFOUND\n", ""),
+        ("infer swap.ivy --lits 1", 1, "NOT FOUND safe\n", ""),
+        (
+            "infer swap.ivy --lits 2",
+            0,
+            "invariant [d1] ~bad\ninvariant [d2] x | y\ninvariant [d3] ~x | ~y\nFOUND\n",
+            "",
+        ),
         ("infer gone.ivy", 3, "", "gone.ivy: cannot be read\n"),
         (
             "infer ab.ivy --lits 9",
@@ -54,12 +97,9 @@ fn answers_and_refusals(rt: HostRuntime) -> Result<(), Fail> {
     ] {
         let words = words_of(alloc, line)?;
         let mut files = SureFiles::new(alloc);
-        files
-            .hold("ab.ivy", TWO_FLAGS.as_bytes())
-            .ok()
-            .ok_or("memory")?;
-        files.hold("empty.ivy", b"").ok().ok_or("memory")?;
-        files.hold("typed.ivy", b"type t\n").ok().ok_or("memory")?;
+        for (name, text) in HELD.iter() {
+            files.hold(name, text.as_bytes()).ok().ok_or("memory")?;
+        }
         let mut out = SureSink::new(alloc);
         let mut err = SureSink::new(alloc);
         let answer = distai(alloc, words.as_slice(), &mut files, &mut out, &mut err);

@@ -5,13 +5,18 @@ ghost use Rattle.dai_base.specs.Files.{Holdings};
 ghost use Rattle.dai_base.specs.Sink.{Appends};
 ghost use Rattle.dai_top.specs.Words.{Refusal, Choices, settings_of};
 ghost use Rattle.dai_top.specs.Readings.{texts};
-ghost use Rattle.dai_top.specs.Outcome.{IsTold, words_fault, length_fault, profile_fault, read_fault, most_bytes, IsRefusedFile};
+ghost use Rattle.dai_top.specs.Outcome.{IsTold, words_fault, length_fault, file_fault, read_fault, most_bytes, IsRefusedFile, IsFaultTold};
+ghost use Rattle.dai_top.specs.Refusals.{IsFaultOf};
+ghost use Rattle.dai_top.specs.Reports.{IsNoReport};
+ghost use Rattle.dai_base.specs.declared.fault.Place.{Place};
 
 use crate::console::{SPENT, put_lines, tell, tell_unreadable};
 use crate::inference::{NoReport, infer};
 use crate::settings::{Settings, WordsError};
 use crate::words::read_words;
-use dai_base::{Fault, Files, Place, ReadError, Sink};
+use dai_base::{Fault, Files, ReadError, Sink, place};
+use dai_lex::one_reading;
+use dai_syntax::one_fault;
 use std::alloc::Global;
 
 /// The most bytes of a file.
@@ -37,7 +42,12 @@ pub fn distai<F: Files, O: Sink, E: Sink>(
         → (out.new ≡ out.old) × (IsTold (length_fault c.operand) 2 (E.written err.old) (E.written err.new) (E.faults err.old) (E.faults err.new) result
         ⊎ (Rises (F.faults files.old) (F.faults files.new) × IsTold (read_fault c.operand) 3 (E.written err.old) (E.written err.new) (E.faults err.old) (E.faults err.new) result)) }
 
-    // Status 2 after words that are accepted is the line of a file that is too long, or else of one that the reader refused.
+    // A file within the limit whose bytes are refused: nothing is put to `out`, and `err` gets the line of its fault, if the read didn't fail.
+    ensures faulty_file { (c : Choices) (held : Holdings) (bytes : List ℕ) (number : ℕ) (place : Place) → settings_of (texts words.now) ≡ Ok c → F.held files.old ≡ Some held → held c.operand ≡ Some bytes → length bytes ≤ most_bytes → IsFaultOf bytes number place
+        → (out.new ≡ out.old) × (IsTold (file_fault c.operand number place) 2 (E.written err.old) (E.written err.new) (E.faults err.old) (E.faults err.new) result
+        ⊎ (Rises (F.faults files.old) (F.faults files.new) × IsTold (read_fault c.operand) 3 (E.written err.old) (E.written err.new) (E.faults err.old) (E.faults err.new) result)) }
+
+    // Status 2 after words that are accepted is the line of a file that is too long, or else of the fault of its bytes.
     ensures refused_file { (c : Choices) → settings_of (texts words.now) ≡ Ok c → result ≡ 2 → (out.new ≡ out.old) × IsRefusedFile (F.held files.old) c.operand (E.written err.old) (E.written err.new) }
 
     ensures one_read { F.reads files.new ≤ F.reads files.old + 1 }
@@ -65,6 +75,9 @@ fn run<F: Files, O: Sink, E: Sink>(
     ensures long_file { (held : Holdings) (bytes : List ℕ) → F.held files.old ≡ Some held → held (string_bytes settings.now.operand) ≡ Some bytes → most_bytes < length bytes
         → (out.new ≡ out.old) × (IsTold (length_fault (string_bytes settings.now.operand)) 2 (E.written err.old) (E.written err.new) (E.faults err.old) (E.faults err.new) result
         ⊎ (Rises (F.faults files.old) (F.faults files.new) × IsTold (read_fault (string_bytes settings.now.operand)) 3 (E.written err.old) (E.written err.new) (E.faults err.old) (E.faults err.new) result)) }
+    ensures faulty_file { (held : Holdings) (bytes : List ℕ) (number : ℕ) (place : Place) → F.held files.old ≡ Some held → held (string_bytes settings.now.operand) ≡ Some bytes → length bytes ≤ most_bytes → IsFaultOf bytes number place
+        → (out.new ≡ out.old) × (IsTold (file_fault (string_bytes settings.now.operand) number place) 2 (E.written err.old) (E.written err.new) (E.faults err.old) (E.faults err.new) result
+        ⊎ (Rises (F.faults files.old) (F.faults files.new) × IsTold (read_fault (string_bytes settings.now.operand)) 3 (E.written err.old) (E.written err.new) (E.faults err.old) (E.faults err.new) result)) }
     ensures refused_file { result ≡ 2 → (out.new ≡ out.old) × IsRefusedFile (F.held files.old) (string_bytes settings.now.operand) (E.written err.old) (E.written err.new) }
     ensures one_read { F.reads files.new ≤ F.reads files.old + 1 }
 {
@@ -88,7 +101,8 @@ fn run_on<O: Sink, E: Sink>(
 ) -> u8
     requires short { length bytes.now ≤ 1048576 }
     requires literals { lits ≤ 8 }
-    ensures refused { result ≡ 2 → (out.new ≡ out.old) × Appends (E.written err.old) (E.written err.new) (profile_fault name.now) }
+    ensures faulty { (number : ℕ) (place : Place) → IsFaultOf bytes.now number place → (out.new ≡ out.old) × IsTold (file_fault name.now number place) 2 (E.written err.old) (E.written err.new) (E.faults err.old) (E.faults err.new) result }
+    ensures refused { result ≡ 2 → (out.new ≡ out.old) × IsFaultTold bytes.now name.now (E.written err.old) (E.written err.new) }
 {
     match infer(alloc, bytes, lits) {
         Ok(report) => put_lines(
@@ -96,10 +110,24 @@ fn run_on<O: Sink, E: Sink>(
             report.text.as_slice(),
             if report.found { 0 } else { 1 },
         ),
-        Err(NoReport::Refused) => {
-            let at = Place { line: 1, column: 1 };
-            tell(alloc, name, &Fault::InFile { number: 20, at }, err)
+        Err(error) => tell_error(alloc, name, bytes, error, err),
+    }
+}
+
+/// Puts the line of the fault of the bytes, or nothing where memory ran out.
+fn tell_error<E: Sink>(alloc: Global, name: &str, bytes: &[u8], error: NoReport, err: &mut E) -> u8
+    requires short { length bytes.now ≤ 1048576 }
+    requires error { IsNoReport bytes.now error }
+    ensures faulty { (number : ℕ) (place : Place) → IsFaultOf bytes.now number place → IsTold (file_fault name.now number place) 2 (E.written err.old) (E.written err.new) (E.faults err.old) (E.faults err.new) result }
+    ensures refused { result ≡ 2 → IsFaultTold bytes.now name.now (E.written err.old) (E.written err.new) }
+{
+    one_reading();
+    one_fault();
+    match error {
+        NoReport::Refused { number, at } => {
+            let at = place(bytes, at);
+            tell(alloc, name, &Fault::InFile { number, at }, err)
         }
-        Err(NoReport::Spent) => SPENT,
+        NoReport::Spent => SPENT,
     }
 }
