@@ -24,6 +24,65 @@ const HELD: [(&str, &str); 9] = [
     ("left.ivy", "relation p\naction a = { p := * }"),
 ];
 
+/// Words, and the status, `out` and `err` that answer them.
+const ROWS: [(&str, u8, &str, &str); 15] = [
+    (
+        "infer ab.ivy --lits 2",
+        0,
+        "invariant [d1] a | b\ninvariant [d2] ~a | ~b\nFOUND\n",
+        "",
+    ),
+    ("infer ab.ivy --lits 1", 1, "NOT FOUND excl\n", ""),
+    ("infer empty.ivy", 0, "FOUND\n", ""),
+    (
+        "infer typed.ivy",
+        2,
+        "",
+        "typed.ivy:1:1: E20 not in the profile\n",
+    ),
+    ("infer byte.ivy", 2, "", "byte.ivy:1:11: E10 bad byte\n"),
+    (
+        "infer token.ivy",
+        2,
+        "",
+        "token.ivy:1:12: E12 unexpected token\n",
+    ),
+    (
+        "infer end.ivy",
+        2,
+        "",
+        "end.ivy:2:18: E12 unexpected token\n",
+    ),
+    (
+        "infer left.ivy",
+        2,
+        "",
+        "left.ivy:2:19: E20 not in the profile\n",
+    ),
+    ("infer none.ivy", 0, "invariant [d1] false\nFOUND\n", ""),
+    ("infer swap.ivy --lits 1", 1, "NOT FOUND safe\n", ""),
+    (
+        "infer swap.ivy --lits 2",
+        0,
+        "invariant [d1] ~bad\ninvariant [d2] x | y\ninvariant [d3] ~x | ~y\nFOUND\n",
+        "",
+    ),
+    ("infer gone.ivy", 3, "", "gone.ivy: cannot be read\n"),
+    (
+        "infer ab.ivy --lits 9",
+        2,
+        "",
+        "distai: word 4: E02 value out of range\n",
+    ),
+    (
+        "infer ab.ivy --lits 2 --lits 3",
+        2,
+        "",
+        "distai: word 5: E01 bad words\n",
+    ),
+    ("", 2, "", "distai: word 1: E01 bad words\n"),
+];
+
 /// The words of a line, between spaces.
 fn words_of(alloc: Global, line: &str) -> Result<Vec<String>, Fail> {
     let mut words = Vec::new(alloc);
@@ -38,63 +97,7 @@ fn words_of(alloc: Global, line: &str) -> Result<Vec<String>, Fail> {
 #[test]
 fn answers_and_refusals(rt: HostRuntime) -> Result<(), Fail> {
     let alloc = rt.alloc();
-    for (line, status, out_text, err_text) in [
-        (
-            "infer ab.ivy --lits 2",
-            0,
-            "invariant [d1] a | b\ninvariant [d2] ~a | ~b\nFOUND\n",
-            "",
-        ),
-        ("infer ab.ivy --lits 1", 1, "NOT FOUND excl\n", ""),
-        ("infer empty.ivy", 0, "FOUND\n", ""),
-        (
-            "infer typed.ivy",
-            2,
-            "",
-            "typed.ivy:1:1: E20 not in the profile\n",
-        ),
-        ("infer byte.ivy", 2, "", "byte.ivy:1:11: E10 bad byte\n"),
-        (
-            "infer token.ivy",
-            2,
-            "",
-            "token.ivy:1:12: E12 unexpected token\n",
-        ),
-        (
-            "infer end.ivy",
-            2,
-            "",
-            "end.ivy:2:18: E12 unexpected token\n",
-        ),
-        (
-            "infer left.ivy",
-            2,
-            "",
-            "left.ivy:2:19: E20 not in the profile\n",
-        ),
-        ("infer none.ivy", 0, "invariant [d1] false\nFOUND\n", ""),
-        ("infer swap.ivy --lits 1", 1, "NOT FOUND safe\n", ""),
-        (
-            "infer swap.ivy --lits 2",
-            0,
-            "invariant [d1] ~bad\ninvariant [d2] x | y\ninvariant [d3] ~x | ~y\nFOUND\n",
-            "",
-        ),
-        ("infer gone.ivy", 3, "", "gone.ivy: cannot be read\n"),
-        (
-            "infer ab.ivy --lits 9",
-            2,
-            "",
-            "distai: word 4: E02 value out of range\n",
-        ),
-        (
-            "infer ab.ivy --lits 2 --lits 3",
-            2,
-            "",
-            "distai: word 5: E01 bad words\n",
-        ),
-        ("", 2, "", "distai: word 1: E01 bad words\n"),
-    ] {
+    for (line, status, out_text, err_text) in ROWS.iter() {
         let words = words_of(alloc, line)?;
         let mut files = SureFiles::new(alloc);
         for (name, text) in HELD.iter() {
@@ -103,7 +106,7 @@ fn answers_and_refusals(rt: HostRuntime) -> Result<(), Fail> {
         let mut out = SureSink::new(alloc);
         let mut err = SureSink::new(alloc);
         let answer = distai(alloc, words.as_slice(), &mut files, &mut out, &mut err);
-        assert_eq!(rt; answer, status, "{line}");
+        assert_eq!(rt; answer, *status, "{line}");
         assert_eq!(rt; out.bytes(), out_text.as_bytes(), "{line}");
         assert_eq!(rt; err.bytes(), err_text.as_bytes(), "{line}");
     }
