@@ -2,7 +2,7 @@ use Rattle.std.specs.Prelude.{◌≡◌, ◌+◌, ◌++◌, ℕ, Bool, true, fal
 use Rattle.std.specs.Fmt.{decimal}
 use Rattle.dai_sat.specs.declared.answer.Answer.{Answer}
 use Rattle.dai_sat.specs.declared.answer.Answer.TheVariants.{Model, Unsat}
-use Rattle.dai_sat.specs.Formula.{Formula}
+use Rattle.dai_sat.specs.Formula.{Formula, IsModelOf, IsUnsatisfiable}
 use Rattle.dai_sat.specs.Answers.{IsAnswerTo}
 use Rattle.dai_dimacs.specs.declared.report.Report.{Report}
 
@@ -30,10 +30,23 @@ abbrev pub status_of : Answer → ℕ
 status_of (Model bits) = 10
 status_of Unsat = 20
 
--- the text and the status are those of an answer that is right for the formula, behind a comment
-pub record IsReportOn (formula : Formula) (report : Report) : Type 0 where
-  pub answer : Answer
-  pub right : IsAnswerTo formula (λ var value. value ≡ false) answer
+-- the text and the status are those of an answer, behind a comment
+pub record IsReportOf (answer : Answer) (report : Report) : Type 0 where
   pub count : ℕ
   pub text : string_bytes report.text ≡ count_line count ++ answer_lines answer
   pub status : report.status ≡ status_of answer
+
+-- the least model, where false counts as less, or none where there is none
+abbrev pub IsLeastAnswerTo : Formula → Answer → Type 0
+IsLeastAnswerTo formula answer = IsAnswerTo formula (λ var value. value ≡ false) answer
+
+-- any model, or none where there is none
+abbrev pub IsAnyAnswerTo : Formula → Answer → Type 0
+IsAnyAnswerTo formula (Model bits) = IsModelOf formula bits.items
+IsAnyAnswerTo formula Unsat = IsUnsatisfiable formula
+
+-- the report is that of an answer that is right for the formula
+pub record IsReportOn (right : Formula → Answer → Type 0) (formula : Formula) (report : Report) : Type 0 where
+  pub answer : Answer
+  pub is_right : right formula answer
+  pub reports : IsReportOf answer report

@@ -14,7 +14,7 @@ pub enum Reading {
 }
 
 /// What a word of a clause stands for.
-enum Token {
+pub enum Token {
     /// The end of the clause.
     End,
     /// A literal.
@@ -39,7 +39,7 @@ fn number(digits: &[u8]) -> Option<usize> {
 }
 
 /// The literal that a word spells, or the end of a clause. A variable is at most the number of them.
-fn token_of(word: &[u8], vars: usize) -> Option<Token>
+pub fn token_of(word: &[u8], vars: usize) -> Option<Token>
     ensures { IfSome result (IsTokenBelow vars) }
 {
     let (positive, digits) = match word {
@@ -57,7 +57,7 @@ fn token_of(word: &[u8], vars: usize) -> Option<Token>
 }
 
 /// The number of variables and of clauses that the header gives.
-fn header(line: &[u8]) -> Option<(usize, usize)> {
+pub fn header(line: &[u8]) -> Option<(usize, usize)> {
     let mut words = line
         .split(|byte| byte.is_ascii_whitespace())
         .filter(|word| !word.is_empty());

@@ -1,9 +1,8 @@
-ghost use Rattle.std.specs.Prelude.{◌≡◌, ◌++◌, false, IfOk, OnOk, string_bytes};
-ghost use Rattle.dai_sat.specs.Answers.{IsAnswerTo};
-ghost use Rattle.dai_dimacs.specs.Reports.{IsReportOn, answer_lines, count_line, status_of, value_word, value_words};
+ghost use Rattle.std.specs.Prelude.{◌≡◌, ◌++◌, IfOk, OnOk, string_bytes};
+ghost use Rattle.dai_dimacs.specs.Reports.{IsReportOf, answer_lines, count_line, status_of, value_word, value_words};
 
 use dai_base::Spent;
-use dai_sat::{Answer, Cnf, Solved};
+use dai_sat::{Answer, Solved};
 use std::alloc::Global;
 
 /// What the program prints on a formula, and the status that it ends with.
@@ -26,7 +25,7 @@ fn push_value(text: &mut String, number: usize, bit: bool) -> Result<(), Spent>
 }
 
 /// Appends the words of the values of all variables.
-fn push_values(text: &mut String, bits: &[bool]) -> Result<(), Spent>
+pub fn push_values(text: &mut String, bits: &[bool]) -> Result<(), Spent>
     ensures { OnOk result (string_bytes text.new ≡ string_bytes text.old ++ value_words 1 bits.now) }
 {
     for (var, bit) in bits.iter().enumerate() {
@@ -72,10 +71,9 @@ fn status_code(answer: &Answer) -> u8
     }
 }
 
-/// The report on a formula, from its answer.
-pub fn report_on(alloc: Global, cnf: &Cnf, solved: &Solved) -> Result<Report, Spent>
-    requires { IsAnswerTo cnf.now (λ var value. value ≡ false) solved.now.answer }
-    ensures { IfOk result (IsReportOn cnf.now) }
+/// The report of an answer.
+pub fn report_of(alloc: Global, solved: &Solved) -> Result<Report, Spent>
+    ensures { IfOk result (IsReportOf solved.now.answer) }
 {
     Ok(Report {
         text: text_of(alloc, solved.propagations, &solved.answer)?,

@@ -1,11 +1,13 @@
-use Rattle.std.proofs.Common.{◌≡◌, ◌<◌, ◌≤◌, ◌+◌, ◌/◌, ◌%◌, ◌⊎◌, ◌==◌, ℕ, Bool, List, [], length, get_or, refl, ap, sym, ◌∙◌, subst, arith, inl, inr}
+use Rattle.std.proofs.Common.{◌≡◌, ◌<◌, ◌≤◌, ◌+◌, ◌/◌, ◌%◌, ◌⊎◌, ◌==◌, ℕ, Bool, List, length, get_or, take, refl, ap, sym, ◌∙◌, subst, arith, inl, inr}
 use Rattle.std.proofs.lemmas.Bool.{cases_eq, cases_lt}
 use Rattle.std.proofs.lemmas.List.{get_or-set_same, get_or-set_other}
 use Rattle.dai_sat.specs.declared.trail.Trail.{Trail}
 use Rattle.dai_sat.specs.declared.trail.TheConstants.{DECISION}
-use Rattle.dai_sat.specs.Formula.{Formula, IsModelOf, value_at}
+use Rattle.dai_sat.specs.Formula.{Formula, AreMetBy, value_at}
 use Rattle.dai_sat.specs.Codes.{digit, Agrees}
-use Rattle.dai_sat.specs.Trail.{value_in, code_at, place_of, IsDecision, IsFalseIn, IsFreeIn, IsMirror, Enters, CutsTo, AgreesBelow, AgreesWithDecisions, IsForced, AreImplied, KeepsDecisions, IsGuided, IsRefuted}
+use Rattle.dai_sat.specs.Trail.{value_in, code_at, place_of, IsDecision, IsFalseIn, IsFreeIn, IsMirror, Enters, CutsTo, AgreesBelow, Widens, ForgetsReasons, AgreesWithDecisions, IsForced, IsTrail, IsSound, KeepsDecisions, IsGuided, IsRefuted, rank_of}
+use Rattle.dai_sat.specs.Rank.{rank}
+use Rattle.dai_sat.specs.Marks.{IsImplied}
 use Rattle.dai_sat.proofs.Mirrors.{mirror_lt}
 
 -- where an assignment makes the trail's literal of a variable true, it makes a false literal false
@@ -48,7 +50,7 @@ pub agrees_at : (bits : List Bool) (a b : ℕ) → a ≡ b → Agrees bits a →
 agrees_at bits a b e h = let P : ℕ → Type 0 = λ c. Agrees bits c in subst P e h
 
 -- the models of the decisions below a place also make the literals below it true, one literal later
-pub forced_points : (f : Formula) (t t' : Trail) (code reason : ℕ) → IsForced f t → Points t t' code reason → ((bits : List Bool) → IsModelOf f bits → AgreesBelow bits t t.len → (reason ≡ DECISION → ⊥) → Agrees bits code) → IsForced f t'
+pub forced_points : (f : Formula) (t t' : Trail) (code reason : ℕ) → IsForced f t → Points t t' code reason → ((bits : List Bool) → AreMetBy f bits → AgreesBelow bits t t.len → (reason ≡ DECISION → ⊥) → Agrees bits code) → IsForced f t'
 forced_points f t t' code reason forced p follows = record {
   entails = λ bits model k kl dec j jl.
       let old : (k : ℕ) → k ≤ t.len → AgreesWithDecisions bits t' k → AgreesBelow bits t k =
@@ -131,20 +133,70 @@ guided_keeps prefers t t' g k = record {
 }
 
 -- a clause with false literals alone refutes the trail
-pub refuted_clause : (f : Formula) (t : Trail) (db : List (List ℕ)) (c : ℕ) → IsMirror t → AreImplied f db → c < length db → ((k : ℕ) → k < length (get_or db c []) → IsFalseIn t (get_or (get_or db c []) k 0)) → IsRefuted f t
-refuted_clause f t db c m implied l lost = record {
-  refutes = λ bits model agrees. implied.implies bits model c l (λ k kl b.
-      denied t (get_or (get_or db c []) k 0) bits m (lost k kl) (agrees (place_of t (get_or (get_or db c []) k 0 / 2)) (lost_place t (get_or (get_or db c []) k 0) m (lost k kl))) b);
+pub refuted_clause : (f : Formula) (t : Trail) (codes : List ℕ) → IsMirror t → IsImplied f codes → ((k : ℕ) → k < length codes → IsFalseIn t (get_or codes k 0)) → IsRefuted f t
+refuted_clause f t codes m implied lost = record {
+  refutes = λ bits model agrees. implied.implies bits model (λ k kl b.
+      denied t (get_or codes k 0) bits m (lost k kl) (agrees (place_of t (get_or codes k 0 / 2)) (lost_place t (get_or codes k 0) m (lost k kl))) b);
 }
 
 -- a clause whose other literals are false makes the one that is left true
-pub unit_follows : (f : Formula) (t : Trail) (db : List (List ℕ)) (c other : ℕ) → IsMirror t → AreImplied f db → c < length db → ((k : ℕ) → k < length (get_or db c []) → (get_or (get_or db c []) k 0 ≡ other) ⊎ IsFalseIn t (get_or (get_or db c []) k 0)) → (bits : List Bool) → IsModelOf f bits → AgreesBelow bits t t.len → Agrees bits other
-unit_follows f t db c other m implied l lost bits model agrees =
+pub unit_follows : (f : Formula) (t : Trail) (codes : List ℕ) (other : ℕ) → IsMirror t → IsImplied f codes → ((k : ℕ) → k < length codes → (get_or codes k 0 ≡ other) ⊎ IsFalseIn t (get_or codes k 0)) → (bits : List Bool) → AreMetBy f bits → AgreesBelow bits t t.len → Agrees bits other
+unit_follows f t codes other m implied lost bits model agrees =
     elim (cases_eq (digit (value_at bits (other / 2))) (other % 2)) [
       | inl same ↦ same
-      | inr differs ↦ absurd (implied.implies bits model c l (λ k kl b.
+      | inr differs ↦ absurd (implied.implies bits model (λ k kl b.
           elim (lost k kl) [
-            | inl e ↦ differs (agrees_at bits (get_or (get_or db c []) k 0) other e b)
-            | inr h ↦ denied t (get_or (get_or db c []) k 0) bits m h (agrees (place_of t (get_or (get_or db c []) k 0 / 2)) (lost_place t (get_or (get_or db c []) k 0) m h)) b
+            | inl e ↦ differs (agrees_at bits (get_or codes k 0) other e b)
+            | inr h ↦ denied t (get_or codes k 0) bits m h (agrees (place_of t (get_or codes k 0 / 2)) (lost_place t (get_or codes k 0) m h)) b
           ]))
     ]
+
+-- one more literal, at a sound trail
+pub sound_points : (f : Formula) (db : List (List ℕ)) (t t' : Trail) (code reason : ℕ) → IsSound f db t → IsTrail t' → Points t t' code reason → ((bits : List Bool) → AreMetBy f bits → AgreesBelow bits t t.len → (reason ≡ DECISION → ⊥) → Agrees bits code) → IsSound f db t'
+sound_points f db t t' code reason s trail p follows = record {
+  trail = trail;
+  forced = forced_points f t t' code reason s.forced p follows;
+  implied = s.implied;
+}
+
+-- back to a place, at a sound trail
+pub sound_cut : (f : Formula) (db : List (List ℕ)) (t t' : Trail) (place : ℕ) → IsSound f db t → IsTrail t' → CutsTo t t' place → place ≤ t.len → IsSound f db t'
+sound_cut f db t t' place s trail cuts le = record {
+  trail = trail;
+  forced = forced_cut f t t' place s.forced cuts le;
+  implied = s.implied;
+}
+
+-- more variables, at a sound trail
+pub forced_widens : (f : Formula) (t t' : Trail) → IsForced f t → Widens t t' → IsForced f t'
+forced_widens f t t' forced w = record {
+  entails = λ bits model k kl dec j jl.
+      let l : k ≤ t.len = omega (arith, w.len) in
+      let d : AgreesWithDecisions bits t k = λ i il is. agrees_at bits (code_at t' i) (code_at t i) (w.codes i) (dec i il (w.reasons i ∙ is)) in
+      agrees_at bits (code_at t j) (code_at t' j) (sym (w.codes j)) (forced.entails bits model k l d j jl);
+}
+
+pub forced_forgets : (f : Formula) (t t' : Trail) → IsForced f t → ForgetsReasons t t' → IsForced f t'
+forced_forgets f t t' forced w = record {
+  entails = λ bits model k kl dec j jl.
+      let l : k ≤ t.len = omega (arith, w.len) in
+      let d : AgreesWithDecisions bits t k = λ i il is.
+      let il' : i < t.len = omega arith in
+      agrees_at bits (code_at t' i) (code_at t i) (ap (λ xs. get_or xs i 0) w.codes) (dec i il (w.kept i il' is)) in
+      agrees_at bits (code_at t j) (code_at t' j) (ap (λ xs. get_or xs j 0) (sym w.codes)) (forced.entails bits model k l d j jl);
+}
+
+-- the rank of a trail whose literals are the same
+pub rank_same : (t t' : Trail) → CutsTo t t' t.len → rank_of t' ≡ rank_of t
+rank_same t t' cuts =
+    ap (λ n. rank n (take t'.len t'.reasons.items)) cuts.room
+    ∙ ap (λ n. rank (length t.values.items) (take n t'.reasons.items)) cuts.len
+    ∙ ap (λ xs. rank (length t.values.items) (take t.len xs)) cuts.reasons
+
+-- a trail with no decision keeps those of any trail of its room
+pub keeps_none : (t t' : Trail) → ((i : ℕ) → i < t'.len → IsDecision t' i → ⊥) → length t'.values.items ≡ length t.values.items → KeepsDecisions t t'
+keeps_none t t' none room = record {
+  stood = λ i l is. absurd (none i l is);
+  same = λ i l is j jl. absurd (none i l is);
+  room = room;
+}

@@ -1,4 +1,4 @@
-use Rattle.std.proofs.Common.{◌≡◌, ◌<◌, ◌+◌, ◌/◌, ◌%◌, ◌⊎◌, ℕ, Bool, true, false, List, [], ◌∷◌, ◌++◌, length, get_or, refl, ap, sym, ◌∙◌, subst, arith, inl, inr}
+use Rattle.std.proofs.Common.{◌≡◌, ◌<◌, ◌+◌, ◌/◌, ◌%◌, ◌⊎◌, ℕ, Bool, List, [], ◌∷◌, ◌++◌, length, get_or, refl, ap, sym, ◌∙◌, subst, arith, inl, inr}
 use Rattle.std.proofs.lemmas.Bool.{cases_eq, cases_lt}
 use Rattle.std.proofs.lemmas.List.{get_or_append_left, get_or_push, length_push}
 use Rattle.dai_sat.specs.declared.trail.Trail.{Trail}
@@ -8,6 +8,7 @@ use Rattle.dai_sat.specs.Codes.{digit, Agrees}
 use Rattle.dai_sat.specs.Trail.{value_in, code_at, IsTrueIn, IsFalseIn, IsTrail}
 use Rattle.dai_sat.specs.Marks.{IsMarked, AreListed, MarksRefute, IsImplied}
 use Rattle.dai_sat.proofs.Forces.{agrees_at}
+use Rattle.dai_sat.proofs.Encodings.{digit_lt}
 
 -- a clause of the negation of `last` and the first n marked literals that are kept
 pub record Gathered (m : Marks) (learned : List ℕ) (last n : ℕ) : Type 0 where
@@ -51,10 +52,6 @@ gather_skip m learned last n skip g = record {
       ];
 }
 
-pub digit_lt : (b : Bool) → digit b < 2
-digit_lt true = omega arith
-digit_lt false = omega arith
-
 -- where the false literal of a variable is false, the true one is true
 agrees_from_denied : (t : Trail) (bits : List Bool) (q code : ℕ) → q / 2 ≡ code / 2 → IsFalseIn t q → IsTrueIn t code → (Agrees bits q → ⊥) → Agrees bits code
 agrees_from_denied t bits q code e lost holds deny =
@@ -67,9 +64,9 @@ agrees_from_denied t bits q code e lost holds deny =
     ]
 
 -- the whole clause is met by each model
-pub gathered_implied : (f : Formula) (t : Trail) (m : Marks) (learned : List ℕ) (place last : ℕ) → IsTrail t → AreListed m t → MarksRefute f t m → place < t.len → last ≡ code_at t place → Gathered m learned last (length m.marked.items) → IsImplied f learned
-gathered_implied f t m learned place last trail listed refute within here g = record {
-  implies = λ bits model deny. refute.refutes bits model (λ i il marked.
+pub gathered_implied : (f : Formula) (t : Trail) (m : Marks) (learned : List ℕ) (place last : ℕ) → IsTrail t → AreListed m t → MarksRefute f t m → m.named.items ≡ [] → place < t.len → last ≡ code_at t place → Gathered m learned last (length m.marked.items) → IsImplied f learned
+gathered_implied f t m learned place last trail listed refute unnamed within here g = record {
+  implies = λ bits model deny. refute.refutes bits model (λ k kl. absurd (omega (arith, ap length unnamed))) (λ i il marked.
       let w = listed.listed (code_at t i / 2) marked in
       let holds = trail.mirror.holding i il in
       let P : ℕ → Type 0 = λ v. IsMarked m v in

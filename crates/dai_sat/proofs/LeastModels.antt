@@ -1,22 +1,15 @@
-use Rattle.std.proofs.Common.{◌≡◌, ◌<◌, ◌≤◌, ◌+◌, ◌/◌, ◌%◌, ◌==◌, ℕ, zero, suc, eqb, Bool, true, false, List, [], ◌∷◌, length, get_or, map, refl, ap, sym, ◌∙◌, subst, arith, inl, inr}
-use Rattle.std.specs.List.{All}
+use Rattle.std.proofs.Common.{◌≡◌, ◌<◌, ◌≤◌, ◌+◌, ◌/◌, ◌%◌, ◌==◌, ℕ, zero, suc, Bool, true, false, List, [], ◌∷◌, length, get_or, map, refl, ap, sym, ◌∙◌, subst, arith, inl, inr}
 use Rattle.std.proofs.lemmas.Bool.{cases_eq, cases_order}
-use Rattle.std.proofs.lemmas.List.{ext_get_or}
+use Rattle.std.proofs.lemmas.List.{get_or_default}
 use Rattle.dai_sat.specs.declared.trail.Trail.{Trail}
 use Rattle.dai_sat.specs.declared.trail.TheConstants.{DECISION}
-use Rattle.dai_sat.specs.Formula.{Formula, IsLeastModelOf, IsMetBy, value_at}
-use Rattle.dai_sat.specs.Codes.{digit}
-use Rattle.dai_sat.specs.Trail.{value_in, code_at, place_of, IsTrail, IsForced, IsGuided, IsRefuted, IsFullModel}
-
--- a truth value is the test whether its digit is 1
-pub eqb_digit : (b : Bool) (n : ℕ) → digit b ≡ n → eqb n 1 ≡ b
-eqb_digit true n e = rw (← e) refl
-eqb_digit false n e = rw (← e) refl
-
-pub digit-eqb : (n : ℕ) → n < 2 → digit (eqb n 1) ≡ n
-digit-eqb zero h = refl
-digit-eqb (suc zero) h = refl
-digit-eqb (suc (suc n)) h = absurd (omega arith)
+use Rattle.dai_sat.specs.declared.cnf.Lit.{Lit}
+use Rattle.dai_sat.specs.Formula.{Formula, IsLeastModelOf, AreMetBy, IsMetBy, value_at}
+use Rattle.dai_sat.specs.Codes.{digit, lit_of, Agrees}
+use Rattle.dai_sat.specs.Trail.{value_in, code_at, place_of, IsTrueIn, IsTrail, IsOrdered, IsForced, IsGuided, IsRefuted, IsFullModel, MeetsClauses, MissesClause}
+use Rattle.dai_sat.proofs.Mirrors.{in_range, true_small}
+use Rattle.dai_sat.proofs.Forces.{refuted_clause}
+use Rattle.dai_sat.proofs.Encodings.{eqb_digit, digit-eqb, agrees_met, clause_implied}
 
 pub digit_injective : (a b : Bool) → digit a ≡ digit b → a ≡ b
 digit_injective true true e = refl
@@ -25,8 +18,8 @@ digit_injective false true e = absurd (omega arith)
 digit_injective false false e = refl
 
 -- where another model first differs, the trail holds a decision
-pub least_model : (prefers : ℕ → Bool → Type 0) (f : Formula) (t : Trail) (bits : List Bool) → IsTrail t → length t.values.items ≡ f.vars → ((u : ℕ) → u < length t.values.items → value_in t u < 2) → IsForced f t → IsGuided prefers t → IsFullModel f t bits → IsLeastModelOf prefers f bits
-least_model prefers f t bits trail room whole forced guided full = record {
+pub least_model : (prefers : ℕ → Bool → Type 0) (f : Formula) (t : Trail) (bits : List Bool) → IsTrail t → IsOrdered t → length t.values.items ≡ f.vars → ((u : ℕ) → u < length t.values.items → value_in t u < 2) → IsForced f t → IsGuided prefers t → IsFullModel f t bits → IsLeastModelOf prefers f bits
+least_model prefers f t bits trail order room whole forced guided full = record {
   model = full.model;
   least = λ other model var vl agree differs.
       let m = trail.mirror in
@@ -47,7 +40,7 @@ least_model prefers f t bits trail room whole forced guided full = record {
         | inr n ↦
             let k : place_of t var + 1 ≤ t.len = omega arith in
             let last : place_of t var < place_of t var + 1 = omega arith in
-            let agreed = forced.entails other model (place_of t var + 1) k (λ j jl is.
+            let agreed = forced.entails other model.meets (place_of t var + 1) k (λ j jl is.
             let j≢i : j ≡ place_of t var → ⊥ = λ e. n (ap (λ j. get_or t.reasons.items j 0) (sym e) ∙ is) in
             let low : j < place_of t var = omega arith in
             let jl' : j < t.len = omega arith in
@@ -61,7 +54,7 @@ least_model prefers f t bits trail room whole forced guided full = record {
                     let s = full.same (code_at t j / 2) bl in
                     ap digit (sym (agree (code_at t j / 2) below)) ∙ s ∙ holds
                 | inr above ↦
-                    let w = m.ordered j jl' is var above in
+                    let w = order.ordered j jl' is var above in
                     let wl : w.0 < t.len = let x = w.1 in omega arith in
                     let at = m.entered w.0 wl in
                     let same : place_of t var ≡ w.0 = ap (λ v. place_of t v) (sym w.2) ∙ at in
@@ -80,23 +73,33 @@ value_at-map [] var l h = absurd (omega arith)
 value_at-map (x ∷ xs) zero l h = digit-eqb x h
 value_at-map (x ∷ xs) (suc var) l h = let l' : var < length xs = omega arith in value_at-map xs var l' h
 
--- where the assignment of a whole trail isn't a model, no model makes its literals true
-pub refuted_whole : (f : Formula) (t : Trail) (bits : List Bool) → IsTrail t → length t.values.items ≡ f.vars → ((u : ℕ) → u < length t.values.items → value_in t u < 2) → length bits ≡ f.vars → ((var : ℕ) → var < f.vars → digit (value_at bits var) ≡ value_in t var) → (All (λ clause. IsMetBy clause bits) f.clauses → ⊥) → IsRefuted f t
-refuted_whole f t bits trail room whole len same unmet = record {
-  refutes = λ other model agrees.
-      let m = trail.mirror in
-      let lens : length bits ≡ length other = len ∙ sym model.whole in
-      let e : bits ≡ other = ext_get_or false bits other lens (λ var l.
-      let vl : var < f.vars = omega arith in
-      let vl' : var < length t.values.items = omega arith in
-      let small = whole var vl' in
-      let name = m.named var small in
-      let il = m.placed var small in
-      let a = agrees (place_of t var) il in
-      let sign : code_at t (place_of t var) % 2 ≡ value_in t var = omega arith in
-      let is_var : code_at t (place_of t var) / 2 ≡ var = omega arith in
-      let d : digit (value_at other var) ≡ value_in t var = ap (λ v. digit (value_at other v)) (sym is_var) ∙ a ∙ sign in
-      digit_injective (get_or bits var false) (get_or other var false) (same var vl ∙ sym d)) in
-      let P : List Bool → Type 0 = λ xs. All (λ clause. IsMetBy clause xs) f.clauses in
-      unmet (subst P (sym e) model.meets);
-}
+-- the assignment of a whole trail agrees with its literals
+pub whole_agrees : (t : Trail) (bits : List Bool) (code : ℕ) → bits ≡ map (λ x. x == 1) t.values.items → value_in t (code / 2) < 2 → IsTrueIn t code → Agrees bits code
+whole_agrees t bits code e small holds =
+    ap (λ xs. digit (get_or xs (code / 2) false)) e ∙ value_at-map t.values.items (code / 2) (in_range t (code / 2) small) small ∙ holds
+
+-- where each clause has a true literal, the assignment of a whole trail meets the formula
+pub whole_meets : (f : Formula) (t : Trail) (bits : List Bool) → bits ≡ map (λ x. x == 1) t.values.items → MeetsClauses f t → AreMetBy f bits
+whole_meets f t bits e meets = λ number d l.
+    let w = meets.met number l in
+    let any = w.2 in
+    let P : List Lit → Type 0 = λ clause. IsMetBy clause bits in
+    let Q : ℕ → Type 0 = λ q. IsTrueIn t q in
+    let at : get_or w.0 any.0 0 ≡ any.1 = get_or_default w.0 any.0 0 any.1 any.2 ∙ any.3 in
+    let holds : IsTrueIn t (get_or w.0 any.0 0) = subst Q (sym at) any.4 in
+    let small : value_in t (get_or w.0 any.0 0 / 2) < 2 = true_small t (get_or w.0 any.0 0) holds in
+    let met : IsMetBy (map lit_of w.0) bits = agrees_met bits w.0 any.0 any.2 (whole_agrees t bits (get_or w.0 any.0 0) e small holds) in
+    subst P (w.1.lits ∙ get_or_default f.clauses number [] d l) met
+
+-- where a clause has no true literal, no model makes the literals of a whole trail true
+pub whole_refuted : (f : Formula) (t : Trail) (number : ℕ) → IsTrail t → length t.values.items ≡ f.vars → ((u : ℕ) → u < length t.values.items → value_in t u < 2) → MissesClause f t number → IsRefuted f t
+whole_refuted f t number trail room whole misses =
+    refuted_clause f t misses.codes trail.mirror (clause_implied f number misses.codes misses.within misses.are_codes)
+    (λ k kl.
+    let b = misses.are_codes.below k kl in
+    let b' : get_or misses.codes k 0 / 2 < length t.values.items = omega arith in
+    let small = whole (get_or misses.codes k 0 / 2) b' in
+    elim (cases_eq (value_in t (get_or misses.codes k 0 / 2)) (get_or misses.codes k 0 % 2)) [
+      | inl e ↦ absurd (misses.unmet (k, get_or misses.codes k 0, kl, get_or_default misses.codes k (get_or misses.codes k 0) 0 kl, e))
+      | inr n ↦ omega arith
+    ])

@@ -5,6 +5,8 @@ pub mod Forces
 pub mod Resolutions
 pub mod Gathers
 pub mod Turns
-pub mod Loads
+pub mod Encodings
 pub mod LeastModels
 pub mod Decisions
+pub mod Unders
+pub mod Readies

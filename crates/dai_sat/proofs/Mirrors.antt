@@ -1,12 +1,13 @@
-use Rattle.std.proofs.Common.{◌≡◌, ◌<◌, ◌≤◌, ◌+◌, ◌*◌, ◌/◌, ◌%◌, ℕ, zero, suc, List, [], ◌∷◌, length, get_or, take, set, refl, ap, sym, ◌∙◌, subst, arith, inl, inr, length-set}
+use Rattle.std.proofs.Common.{Vec, Global, ◌≡◌, ◌<◌, ◌≤◌, ◌+◌, ◌*◌, ◌/◌, ◌%◌, ℕ, zero, suc, List, [], ◌∷◌, ◌++◌, length, get_or, take, set, refl, ap, sym, ◌∙◌, subst, arith, inl, inr, length-set}
 use Rattle.std.specs.List.{sum_by}
+use Rattle.std.specs.Prelude.{min}
 use Rattle.std.proofs.lemmas.Bool.{cases_eq, cases_lt}
-use Rattle.std.proofs.lemmas.List.{get_or-set_same, get_or-set_other, get_or_past, take_more_set, length-take-le}
+use Rattle.std.proofs.lemmas.List.{get_or-set_same, get_or-set_other, get_or_past, get_or_append_left, get_or_push, length_push, take_more_set, length-take-le}
 use Rattle.std.proofs.lemmas.Grind.{common_steps}
 use Rattle.dai_sat.specs.declared.trail.Trail.{Trail}
 use Rattle.dai_sat.specs.declared.trail.TheConstants.{DECISION}
 use Rattle.dai_sat.specs.Rank.{rank}
-use Rattle.dai_sat.specs.Trail.{value_in, code_at, place_of, IsDecision, IsTrueIn, IsFalseIn, IsFreeIn, one_if_assigned, IsMirror, IsTrail, CutsTo, rank_of}
+use Rattle.dai_sat.specs.Trail.{value_in, code_at, place_of, IsDecision, IsTrueIn, IsFalseIn, IsFreeIn, one_if_assigned, IsMirror, IsTrail, CutsTo, Widens, ForgetsReasons, rank_of}
 use Rattle.dai_sat.proofs.Ranks.{rank_push}
 
 -- a count is at most the length
@@ -126,32 +127,8 @@ adds_holding t t' code reason m a i h =
           subst P (sym q) (a.value_else (code_at t i / 2) ne ∙ hold)
     ]
 
-adds_ordered : (t t' : Trail) (code reason : ℕ) → IsMirror t → Adds t t' code reason → (reason ≡ DECISION → (u : ℕ) → u < code / 2 → value_in t u < 2) → (i : ℕ) → i < t'.len → IsDecision t' i → (u : ℕ) → u < code_at t' i / 2 → (j : ℕ) × (j < i) × (code_at t' j / 2 ≡ u)
-adds_ordered t t' code reason m a first i h d u below =
-    elim (cases_eq i t.len) [
-      | inl e ↦
-          let r : reason ≡ DECISION = sym a.reason_here ∙ ap (λ k. get_or t'.reasons.items k 0) (sym e) ∙ d in
-          let q : code_at t' i ≡ code = ap (λ k. code_at t' k) e ∙ a.code_here in
-          let b : u < code / 2 = omega arith in
-          let v = first r u b in
-          let l = m.placed u v in
-          let n = m.named u v in
-          let c = a.code_below (place_of t u) l in
-          let l' : place_of t u < i = omega arith in
-          let s : code_at t' (place_of t u) / 2 ≡ u = omega arith in
-          (place_of t u, l', s)
-      | inr n ↦
-          let l : i < t.len = omega (arith, a.len) in
-          let q = a.code_below i l in
-          let d' : IsDecision t i = sym (a.reason_below i l) ∙ d in
-          let b : u < code_at t i / 2 = omega arith in
-          let w = m.ordered i l d' u b in
-          let wl : w.0 < t.len = let x = w.1 in omega arith in
-          (w.0, w.1, ap (λ q. q / 2) (a.code_below w.0 wl) ∙ w.2)
-    ]
-
-pub adds_mirror : (t t' : Trail) (code reason : ℕ) → IsMirror t → Adds t t' code reason → t'.values.items ≡ set t.values.items (code / 2) (code % 2) → length t'.codes.items ≡ length t.codes.items → length t'.reasons.items ≡ length t.reasons.items → length t'.places.items ≡ length t.places.items → (reason ≡ DECISION → (u : ℕ) → u < code / 2 → value_in t u < 2) → IsMirror t'
-adds_mirror t t' code reason m a v c r p first =
+pub adds_mirror : (t t' : Trail) (code reason : ℕ) → IsMirror t → Adds t t' code reason → t'.values.items ≡ set t.values.items (code / 2) (code % 2) → length t'.codes.items ≡ length t.codes.items → length t'.reasons.items ≡ length t.reasons.items → length t'.places.items ≡ length t.places.items → IsMirror t'
+adds_mirror t t' code reason m a v c r p =
     let n : length t'.values.items ≡ length t.values.items = ap length v ∙ length-set t.values.items (code / 2) (code % 2) in
     let b : code % 2 < 2 = omega arith in
     let s : sum_by one_if_assigned t'.values.items ≡ sum_by one_if_assigned t.values.items + 1 = ap (sum_by one_if_assigned) v ∙ count_assign t.values.items (code / 2) (code % 2) a.small a.freed b in
@@ -164,7 +141,6 @@ adds_mirror t t' code reason m a v c r p first =
       named = adds_named t t' code reason m a;
       entered = adds_entered t t' code reason m a;
       holding = adds_holding t t' code reason m a;
-      ordered = adds_ordered t t' code reason m a first;
     }
 
 pub adds_trail : (t t' : Trail) (code reason : ℕ) → IsTrail t → Adds t t' code reason → IsMirror t' → t'.root ≡ t.root → t'.next ≡ t.next → IsTrail t'
@@ -205,13 +181,13 @@ adds_from_writes t t' code reason m f len v p c r =
     }
 
 -- the whole step
-pub assign_trail : (t t' : Trail) (code reason : ℕ) → IsTrail t → IsFreeIn t code → (reason ≡ DECISION → (u : ℕ) → u < code / 2 → value_in t u < 2) → t'.len ≡ t.len + 1 → t'.root ≡ t.root → t'.next ≡ t.next → t'.values.items ≡ set t.values.items (code / 2) (code % 2) → t'.places.items ≡ set t.places.items (code / 2) t.len → t'.codes.items ≡ set t.codes.items t.len code → t'.reasons.items ≡ set t.reasons.items t.len reason → IsTrail t'
-assign_trail t t' code reason m f first len root next v p c r =
+pub assign_trail : (t t' : Trail) (code reason : ℕ) → IsTrail t → IsFreeIn t code → t'.len ≡ t.len + 1 → t'.root ≡ t.root → t'.next ≡ t.next → t'.values.items ≡ set t.values.items (code / 2) (code % 2) → t'.places.items ≡ set t.places.items (code / 2) t.len → t'.codes.items ≡ set t.codes.items t.len code → t'.reasons.items ≡ set t.reasons.items t.len reason → IsTrail t'
+assign_trail t t' code reason m f len root next v p c r =
     let a = adds_from_writes t t' code reason m.mirror f len v p c r in
     let cl : length t'.codes.items ≡ length t.codes.items = ap length c ∙ length-set t.codes.items t.len code in
     let rl : length t'.reasons.items ≡ length t.reasons.items = ap length r ∙ length-set t.reasons.items t.len reason in
     let pl : length t'.places.items ≡ length t.places.items = ap length p ∙ length-set t.places.items (code / 2) t.len in
-    adds_trail t t' code reason m a (adds_mirror t t' code reason m.mirror a v cl rl pl first) root next
+    adds_trail t t' code reason m a (adds_mirror t t' code reason m.mirror a v cl rl pl) root next
 
 -- a step makes the rank fall
 pub assign_falls : (t : Trail) (code reason : ℕ) → IsTrail t → IsFreeIn t code → rank (length (set t.values.items (code / 2) (code % 2))) (take (t.len + 1) (set t.reasons.items t.len reason)) < rank_of t
@@ -292,13 +268,6 @@ drops_mirror t t' place m d =
           let l : i < t.len = omega (arith, d.last, d.len) in
           let low : i < place = omega (arith, d.len) in
           ap (λ c. value_in t' (c / 2)) (cs i) ∙ drops_kept t t' place m d i low ∙ m.holding i l ∙ ap (λ c. c % 2) (sym (cs i));
-      ordered = λ i h is u b.
-          let l : i < t.len = omega (arith, d.last, d.len) in
-          let is' : IsDecision t i = ap (λ xs. get_or xs i 0) (sym d.reasons) ∙ is in
-          let c = cs i in
-          let b' : u < code_at t i / 2 = omega arith in
-          let w = m.ordered i l is' u b' in
-          (w.0, w.1, ap (λ c. c / 2) (cs w.0) ∙ w.2);
     }
 
 -- the parts that a mirror does not look at
@@ -312,7 +281,6 @@ mirror_beside t head root next m = record {
   named = m.named;
   entered = m.entered;
   holding = m.holding;
-  ordered = m.ordered;
 }
 
 pub cuts_refl : (t : Trail) → CutsTo t t t.len
@@ -327,22 +295,138 @@ cuts_more t m t' place a b = record {
   room = b.room ∙ a.room;
 }
 
--- back at a decision the trail stands as it stood
-pub cut_trail : (t t' : Trail) (place : ℕ) → IsTrail t → place < t.len → IsDecision t place → IsMirror t' → CutsTo t t' place → t'.root ≡ t.root → t'.next ≡ code_at t place / 2 → IsTrail t'
-cut_trail t t' place m l d new cuts root next =
-    let low : t.root ≤ place = elim (cases_lt place t.root) [ inl b ↦ absurd (m.root_forced place b d) | inr b ↦ b ] in
+-- a decision stands behind the root
+pub decision_above : (t : Trail) (place : ℕ) → IsTrail t → IsDecision t place → t.root ≤ place
+decision_above t place m d = elim (cases_lt place t.root) [ inl b ↦ absurd (m.root_forced place b d) | inr b ↦ b ]
+
+-- without its last literal, which isn't below the root, a trail is one
+pub drops_trail : (t t' : Trail) (place : ℕ) → IsTrail t → t.root < t.len → Drops t t' place → t'.root ≡ t.root → t'.next ≡ min t.next (code_at t place / 2) → IsTrail t'
+drops_trail t t' place m above d root next = record {
+  mirror = drops_mirror t t' place m.mirror d;
+  root_in = omega (arith, d.last, d.len);
+  root_forced = λ i b is.
+      let b' : i < t.root = omega arith in
+      m.root_forced i b' (ap (λ xs. get_or xs i 0) (sym d.reasons) ∙ is);
+  next_after = λ u b.
+      let low : u < t.next = omega arith in
+      let n : u ≡ code_at t place / 2 → ⊥ = λ e. absurd (omega arith) in
+      let e : value_in t' u ≡ value_in t u = ap (λ xs. get_or xs u 2) d.values ∙ get_or-set_other t.values.items (code_at t place / 2) u 2 2 n in
+      let h = m.next_after u low in
+      omega arith;
+}
+
+-- the head is no part of what makes a trail
+pub trail_beside : (t : Trail) (head : ℕ) → IsTrail t → IsTrail (record t { head = head })
+trail_beside t head m = record {
+  mirror = mirror_beside t head t.root t.next m.mirror;
+  root_in = m.root_in;
+  root_forced = m.root_forced;
+  next_after = m.next_after;
+}
+
+-- one more element, which is what is read past the end, changes no read
+pub get_or-push_default : (xs : List ℕ) (i d : ℕ) → get_or (xs ++ d ∷ []) i d ≡ get_or xs i d
+get_or-push_default xs i d =
+    elim (cases_lt i (length xs)) [
+      | inl l ↦ get_or_append_left xs (d ∷ []) d i l
+      | inr h ↦ elim (cases_eq i (length xs)) [
+        | inl e ↦ get_or_push xs d d i (sym e) ∙ sym (get_or_past xs i d h)
+        | inr n ↦
+            let len = length_push xs d in
+            let past : length (xs ++ d ∷ []) ≤ i = omega arith in
+            get_or_past (xs ++ d ∷ []) i d past ∙ sym (get_or_past xs i d h)
+      ]
+    ]
+
+sum_by-push_free : (xs : List ℕ) → sum_by one_if_assigned (xs ++ 2 ∷ []) ≡ sum_by one_if_assigned xs
+sum_by-push_free [] = grind (arith, common_steps)
+sum_by-push_free (x ∷ xs) = let rest = sum_by-push_free xs in grind (arith, common_steps)
+
+-- one more variable, which is free
+pub record Grows (t t' : Trail) : Type 0 where
+  pub values : t'.values.items ≡ t.values.items ++ 2 ∷ []
+  pub places : t'.places.items ≡ t.places.items ++ 0 ∷ []
+  pub codes : t'.codes.items ≡ t.codes.items ++ 0 ∷ []
+  pub reasons : t'.reasons.items ≡ t.reasons.items ++ 0 ∷ []
+  pub len : t'.len ≡ t.len
+  pub root : t'.root ≡ t.root
+  pub next : t'.next ≡ t.next
+
+pub grows_trail : (t t' : Trail) → IsTrail t → Grows t t' → IsTrail t'
+grows_trail t t' m g =
+    let v : (u : ℕ) → value_in t' u ≡ value_in t u = λ u. ap (λ xs. get_or xs u 2) g.values ∙ get_or-push_default t.values.items u 2 in
+    let p : (u : ℕ) → place_of t' u ≡ place_of t u = λ u. ap (λ xs. get_or xs u 0) g.places ∙ get_or-push_default t.places.items u 0 in
+    let c : (i : ℕ) → code_at t' i ≡ code_at t i = λ i. ap (λ xs. get_or xs i 0) g.codes ∙ get_or-push_default t.codes.items i 0 in
+    let r : (i : ℕ) → get_or t'.reasons.items i 0 ≡ get_or t.reasons.items i 0 = λ i. ap (λ xs. get_or xs i 0) g.reasons ∙ get_or-push_default t.reasons.items i 0 in
+    let vl = ap length g.values ∙ length_push t.values.items 2 in
+    let s : sum_by one_if_assigned t'.values.items ≡ sum_by one_if_assigned t.values.items = ap (sum_by one_if_assigned) g.values ∙ sum_by-push_free t.values.items in
     record {
-      mirror = new;
-      root_in = omega (arith, cuts.len);
-      root_forced = λ i b is.
-          let b' : i < t.root = omega arith in
-          m.root_forced i b' (ap (λ xs. get_or xs i 0) (sym cuts.reasons) ∙ is);
-      next_after = λ u b.
-          let b' : u < code_at t place / 2 = omega arith in
-          let w = m.mirror.ordered place l d u b' in
-          let in' : w.0 < t'.len = let x = w.1 in omega (arith, cuts.len) in
-          let h : value_in t' (code_at t' w.0 / 2) < 2 = true_small t' (code_at t' w.0) (new.holding w.0 in') in
-          let e : code_at t' w.0 / 2 ≡ u = ap (λ xs. get_or xs w.0 0 / 2) cuts.codes ∙ w.2 in
-          let P : ℕ → Type 0 = λ u. value_in t' u < 2 in
-          subst P e h;
+      mirror = record {
+        codes_room = omega (arith, m.mirror.codes_room, vl, ap length g.codes ∙ length_push t.codes.items 0);
+        reasons_room = omega (arith, m.mirror.reasons_room, vl, ap length g.reasons ∙ length_push t.reasons.items 0);
+        places_room = omega (arith, m.mirror.places_room, vl, ap length g.places ∙ length_push t.places.items 0);
+        count = omega (arith, m.mirror.count, s, g.len);
+        placed = λ u h. let e = v u in let old : value_in t u < 2 = omega arith in let b = m.mirror.placed u old in let q = p u in omega (arith, g.len);
+        named = λ u h. let e = v u in let old : value_in t u < 2 = omega arith in let b = m.mirror.named u old in
+            let q : code_at t' (place_of t' u) ≡ code_at t (place_of t u) = ap (λ i. code_at t' i) (p u) ∙ c (place_of t u) in omega arith;
+        entered = λ i h. let l : i < t.len = omega (arith, g.len) in
+            ap (λ q. place_of t' (q / 2)) (c i) ∙ p (code_at t i / 2) ∙ m.mirror.entered i l;
+        holding = λ i h. let l : i < t.len = omega (arith, g.len) in
+            ap (λ q. value_in t' (q / 2)) (c i) ∙ v (code_at t i / 2) ∙ m.mirror.holding i l ∙ ap (λ q. q % 2) (sym (c i));
+      };
+      root_in = omega (arith, m.root_in, g.root, g.len);
+      root_forced = λ i b is. let l : i < t.root = omega (arith, g.root) in m.root_forced i l (sym (r i) ∙ is);
+      next_after = λ u b. let l : u < t.next = omega (arith, g.next) in let h = m.next_after u l in let e = v u in omega arith;
     }
+
+pub grows_widens : (a t t' : Trail) → Grows t t' → Widens a t → Widens a t'
+grows_widens a t t' g w = record {
+  len = g.len ∙ w.len;
+  codes = λ i. ap (λ xs. get_or xs i 0) g.codes ∙ get_or-push_default t.codes.items i 0 ∙ w.codes i;
+  reasons = λ i. ap (λ xs. get_or xs i 0) g.reasons ∙ get_or-push_default t.reasons.items i 0 ∙ w.reasons i;
+}
+
+pub widens_refl : (t : Trail) → Widens t t
+widens_refl t = record { len = refl; codes = λ i. refl; reasons = λ i. refl }
+
+pub forgets_refl : (t : Trail) → ForgetsReasons t t
+forgets_refl t = record { codes = refl; values = refl; len = refl; decisions = λ i l is. is; kept = λ i l is. is }
+
+pub forgets_trans : (a b c : Trail) → ForgetsReasons a b → ForgetsReasons b c → ForgetsReasons a c
+forgets_trans a b c p q = record {
+  codes = q.codes ∙ p.codes;
+  values = q.values ∙ p.values;
+  len = q.len ∙ p.len;
+  decisions = λ i l is. let l' : i < b.len = omega (arith, p.len) in p.decisions i l (q.decisions i l' is);
+  kept = λ i l is. let l' : i < b.len = omega (arith, p.len) in q.kept i l' (p.kept i l is);
+}
+
+-- a reason that is no decision gives way to another that is none
+pub forget_decisions : (t : Trail) (place reason : ℕ) → IsTrail t → place < t.len → (IsDecision t place → ⊥) → (reason ≡ DECISION → ⊥) → (i : ℕ) → (get_or (set t.reasons.items place reason) i 0 ≡ DECISION → IsDecision t i) × (IsDecision t i → get_or (set t.reasons.items place reason) i 0 ≡ DECISION)
+forget_decisions t place reason m l not_here none i =
+    let low : place < length t.reasons.items = omega (arith, mirror_le t m.mirror, m.mirror.reasons_room) in
+    elim (cases_eq i place) [
+      | inl e ↦
+          let here : get_or (set t.reasons.items place reason) i 0 ≡ reason = ap (λ k. get_or (set t.reasons.items place reason) k 0) e ∙ get_or-set_same t.reasons.items place reason 0 low in
+          (λ is. absurd (none (sym here ∙ is)), λ is. absurd (not_here (ap (λ k. get_or t.reasons.items k 0) (sym e) ∙ is)))
+      | inr n ↦
+          let same : get_or (set t.reasons.items place reason) i 0 ≡ get_or t.reasons.items i 0 = get_or-set_other t.reasons.items place i reason 0 n in
+          (λ is. sym same ∙ is, λ is. same ∙ is)
+    ]
+
+pub forget_trail : (t : Trail) (reasons : Vec ℕ Global) → IsTrail t → length reasons.items ≡ length t.reasons.items → ((i : ℕ) → get_or reasons.items i 0 ≡ DECISION → IsDecision t i) → IsTrail (record t { reasons = reasons })
+forget_trail t reasons m len back = record {
+  mirror = record {
+    codes_room = m.mirror.codes_room;
+    reasons_room = len ∙ m.mirror.reasons_room;
+    places_room = m.mirror.places_room;
+    count = m.mirror.count;
+    placed = m.mirror.placed;
+    named = m.mirror.named;
+    entered = m.mirror.entered;
+    holding = m.mirror.holding;
+  };
+  root_in = m.root_in;
+  root_forced = λ i l is. m.root_forced i l (back i is);
+  next_after = m.next_after;
+}

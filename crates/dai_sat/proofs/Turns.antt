@@ -3,14 +3,14 @@ use Rattle.std.proofs.lemmas.Bool.{cases_eq, cases_lt}
 use Rattle.std.proofs.lemmas.List.{get_or_append_left, get_or_push, length_push, get_or-drop, get_or-take, length-drop, length-take-le, take_more_set, take-take}
 use Rattle.dai_sat.specs.declared.trail.Trail.{Trail}
 use Rattle.dai_sat.specs.declared.trail.TheConstants.{DECISION}
-use Rattle.dai_sat.specs.Formula.{Formula, IsModelOf, IsUnsatisfiable, value_at}
+use Rattle.dai_sat.specs.Formula.{Formula, AreMetBy, IsContradiction, value_at}
 use Rattle.dai_sat.specs.Codes.{digit, Agrees, AreDenied}
 use Rattle.dai_sat.specs.Trail.{value_in, code_at, place_of, IsDecision, IsFalseIn, IsFreeIn, IsMirror, Enters, CutsTo, AgreesBelow, IsForced, AreImplied, KeepsDecisions, IsRefuted, rank_of}
 use Rattle.dai_sat.specs.Marks.{IsImplied, IsUnitAt}
 use Rattle.dai_sat.proofs.Ranks.{rank_turn}
 use Rattle.dai_sat.proofs.Mirrors.{mirror_le, in_range}
 use Rattle.dai_sat.proofs.Forces.{denied, lost_place, agrees_at, enters_points, forced_points, forced_cut, keeps_trans, keeps_points, keeps_cut}
-use Rattle.dai_sat.proofs.Gathers.{digit_lt}
+use Rattle.dai_sat.proofs.Encodings.{digit_lt}
 
 -- a variable whose literal stood from the place on is free after the cut
 pub freed_by_cut : (t t' : Trail) (place code : ℕ) → IsMirror t' → CutsTo t t' place → value_in t (code / 2) < 2 → place ≤ place_of t (code / 2) → IsFreeIn t' code
@@ -82,7 +82,7 @@ implied_push f db codes a b = record {
 }
 
 -- the first literal of a learned clause follows after the cut
-pub unit_at_follows : (f : Formula) (t t' : Trail) (codes : List ℕ) (place : ℕ) → IsMirror t → IsMirror t' → CutsTo t t' place → IsImplied f codes → IsUnitAt t codes place → (bits : List Bool) → IsModelOf f bits → AgreesBelow bits t' t'.len → Agrees bits (get_or codes 0 0)
+pub unit_at_follows : (f : Formula) (t t' : Trail) (codes : List ℕ) (place : ℕ) → IsMirror t → IsMirror t' → CutsTo t t' place → IsImplied f codes → IsUnitAt t codes place → (bits : List Bool) → AreMetBy f bits → AgreesBelow bits t' t'.len → Agrees bits (get_or codes 0 0)
 unit_at_follows f t t' codes place m m' cuts implied unit bits model agree =
     elim (cases_eq (digit (value_at bits (get_or codes 0 0 / 2))) (get_or codes 0 0 % 2)) [
       | inl same ↦ same
@@ -102,7 +102,7 @@ unit_at_follows f t t' codes place m m' cuts implied unit bits model agree =
     ]
 
 -- where no model makes all literals true, the last decision turns round
-pub flip_follows : (f : Formula) (t t' : Trail) (place neg : ℕ) → IsForced f t → IsRefuted f t → place < t.len → CutsTo t t' place → neg / 2 ≡ code_at t place / 2 → neg % 2 + code_at t place % 2 ≡ 1 → ((i : ℕ) → place < i → i < t.len → IsDecision t i → ⊥) → (bits : List Bool) → IsModelOf f bits → AgreesBelow bits t' t'.len → Agrees bits neg
+pub flip_follows : (f : Formula) (t t' : Trail) (place neg : ℕ) → IsForced f t → IsRefuted f t → place < t.len → CutsTo t t' place → neg / 2 ≡ code_at t place / 2 → neg % 2 + code_at t place % 2 ≡ 1 → ((i : ℕ) → place < i → i < t.len → IsDecision t i → ⊥) → (bits : List Bool) → AreMetBy f bits → AgreesBelow bits t' t'.len → Agrees bits neg
 flip_follows f t t' place neg forced refuted l cuts var sign none bits model agree =
     elim (cases_eq (digit (value_at bits (neg / 2))) (neg % 2)) [
       | inl same ↦ same
@@ -124,8 +124,8 @@ flip_follows f t t' place neg forced refuted l cuts var sign none bits model agr
     ]
 
 -- with no decision a refuted trail leaves no model
-pub none_unsatisfiable : (f : Formula) (t : Trail) → IsForced f t → IsRefuted f t → ((i : ℕ) → i < t.len → IsDecision t i → ⊥) → IsUnsatisfiable f
-none_unsatisfiable f t forced refuted none = λ bits model.
+pub none_contradiction : (f : Formula) (t : Trail) → IsForced f t → IsRefuted f t → ((i : ℕ) → i < t.len → IsDecision t i → ⊥) → IsContradiction f
+none_contradiction f t forced refuted none = λ bits model.
     let le : t.len ≤ t.len = omega arith in
     refuted.refutes bits model (forced.entails bits model t.len le (λ i il is. absurd (none i il is)))
 

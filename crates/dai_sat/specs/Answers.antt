@@ -1,17 +1,19 @@
-use Rattle.std.specs.Prelude.{◌<◌, ◌≤◌, ℕ, Bool, length}
+use Rattle.std.specs.Prelude.{◌≡◌, ◌<◌, ◌≤◌, ℕ, Bool, [], length}
 use Rattle.dai_sat.specs.declared.answer.Answer.{Answer}
 use Rattle.dai_sat.specs.declared.answer.Answer.TheVariants.{Model, Unsat}
 use Rattle.dai_sat.specs.declared.propagation.Look.{Look}
 use Rattle.dai_sat.specs.declared.propagation.Look.TheVariants.{Stays, Moved, Conflict}
 use Rattle.dai_sat.specs.declared.analysis.Resolved.{Resolved}
 use Rattle.dai_sat.specs.declared.analysis.Resolved.TheVariants.{Stuck, Refuted, At}
-use Rattle.dai_sat.specs.declared.solver.Step.{Step}
-use Rattle.dai_sat.specs.declared.solver.Step.TheVariants as step
+use Rattle.dai_sat.specs.declared.least.Step.{Step}
+use Rattle.dai_sat.specs.declared.least.Step.TheVariants as step
+use Rattle.dai_sat.specs.declared.step.Move.{Move}
+use Rattle.dai_sat.specs.declared.step.Move.TheVariants as move
 use Rattle.dai_sat.specs.declared.trail.Trail.{Trail}
 use Rattle.dai_sat.specs.declared.marks.Marks.{Marks}
-use Rattle.dai_sat.specs.Formula.{Formula, IsLeastModelOf, IsUnsatisfiable}
-use Rattle.dai_sat.specs.Trail.{IsRefuted, IsFullModel, value_in, rank_of}
-use Rattle.dai_sat.specs.Marks.{AreListed, MarksRefute}
+use Rattle.dai_sat.specs.Formula.{Formula, IsLeastModelOf, IsUnsatisfiable, IsContradiction}
+use Rattle.dai_sat.specs.Trail.{IsRefuted, IsFullModel, IsOpenIn, value_in, rank_of}
+use Rattle.dai_sat.specs.Marks.{AreMarks}
 
 -- a model is the least one by the preferences, and none is answered only where there is none
 abbrev pub IsAnswerTo : Formula → (ℕ → Bool → Type 0) → Answer → Type 0
@@ -27,12 +29,18 @@ RefutesOnConflict formula t Conflict = IsRefuted formula t
 -- what is left of a conflict: nothing is known, or there is no model, or the marks refute the trail
 abbrev pub IsResolution : Formula → Trail → Marks → Resolved → Type 0
 IsResolution formula t m Stuck = Unit {0}
-IsResolution formula t m Refuted = IsUnsatisfiable formula
-IsResolution formula t m (At place) = (place < t.len) × AreListed m t × MarksRefute formula t m
+IsResolution formula t m Refuted = IsContradiction formula
+IsResolution formula t m (At place) = (place < t.len) × AreMarks formula t m × (m.named.items ≡ [])
 
 -- what is known after a step: the rank fell, or the first free variable, a model, or that there is none
 abbrev pub IsStepOf : Formula → Trail → Trail → Step → Type 0
 IsStepOf formula old new step.Again = rank_of new < rank_of old
-IsStepOf formula old new (step.Decide var) = (rank_of new ≤ rank_of old) × (var < length new.values.items) × (2 ≤ value_in new var) × ((u : ℕ) → u < var → value_in new u < 2)
+IsStepOf formula old new (step.Decide var) = (rank_of new ≤ rank_of old) × IsOpenIn new var × ((u : ℕ) → u < var → value_in new u < 2)
 IsStepOf formula old new (step.Found bits) = ((u : ℕ) → u < length new.values.items → value_in new u < 2) × IsFullModel formula new bits.items
-IsStepOf formula old new step.Unsat = IsUnsatisfiable formula
+IsStepOf formula old new step.Unsat = IsContradiction formula
+
+-- what is known after a move: the rank fell, or nothing follows any more, or that there is no model
+abbrev pub IsMoveOf : Formula → Trail → Trail → Move → Type 0
+IsMoveOf formula old new move.Again = rank_of new < rank_of old
+IsMoveOf formula old new move.Quiet = rank_of new ≤ rank_of old
+IsMoveOf formula old new move.Unsat = IsContradiction formula

@@ -27,10 +27,14 @@ IsTrueAt bits l = value_at bits l.var ≡ l.positive
 abbrev pub IsMetBy : List Lit → List Bool → Type 0
 IsMetBy clause bits = Any (IsTrueAt bits) clause
 
+-- an assignment meets each clause of the formula
+abbrev pub AreMetBy : Formula → List Bool → Type 0
+AreMetBy formula bits = All (λ clause. IsMetBy clause bits) formula.clauses
+
 -- an assignment of all variables that meets each clause
 pub record IsModelOf (formula : Formula) (bits : List Bool) : Type 0 where
   pub whole : length bits ≡ formula.vars
-  pub meets : All (λ clause. IsMetBy clause bits) formula.clauses
+  pub meets : AreMetBy formula bits
 
 -- compared with any other model, at the first variable where the two differ it has the preferred value
 pub record IsLeastModelOf (prefers : ℕ → Bool → Type 0) (formula : Formula) (bits : List Bool) : Type 0 where
@@ -40,3 +44,7 @@ pub record IsLeastModelOf (prefers : ℕ → Bool → Type 0) (formula : Formula
 -- no assignment meets the clauses
 abbrev pub IsUnsatisfiable : Formula → Type 0
 IsUnsatisfiable formula = (bits : List Bool) → IsModelOf formula bits → ⊥
+
+-- no assignment, of any length, meets the clauses
+abbrev pub IsContradiction : Formula → Type 0
+IsContradiction formula = (bits : List Bool) → AreMetBy formula bits → ⊥

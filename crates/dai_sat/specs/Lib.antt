@@ -5,3 +5,4 @@ pub mod Rank
 pub mod Trail
 pub mod Marks
 pub mod Answers
+pub mod Under

@@ -1,7 +1,7 @@
-use Rattle.std.specs.Prelude.{◌≡◌, ◌/◌, ◌<◌, ◌≤◌, ◌⊎◌, ℕ, Bool, List, [], drop, length, slice_index, slice_index_or}
+use Rattle.std.specs.Prelude.{◌≡◌, ◌/◌, ◌<◌, ◌≤◌, ◌⊎◌, ◌++◌, ◌∷◌, ℕ, Bool, List, [], drop, length, slice_index}
 use Rattle.dai_sat.specs.declared.trail.Trail.{Trail}
 use Rattle.dai_sat.specs.declared.marks.Marks.{Marks}
-use Rattle.dai_sat.specs.Formula.{Formula, IsModelOf}
+use Rattle.dai_sat.specs.Formula.{Formula, AreMetBy}
 use Rattle.dai_sat.specs.Codes.{Agrees, AreDenied}
 use Rattle.dai_sat.specs.Trail.{IsFalseIn, IsDecision, code_at, place_of}
 
@@ -22,12 +22,21 @@ pub record AreListed (m : Marks) (t : Trail) : Type 0 where
 -- what was marked is marked
 pub record MarksMore (old new : Marks) : Type 0 where
   pub more : (var : ℕ) → IsMarked old var → IsMarked new var
+  pub named : new.named.items ≡ old.named.items
 
 -- one variable is not marked any more
 pub record Unmarks (old new : Marks) (var : ℕ) : Type 0 where
   pub fewer : (u : ℕ) → IsMarked new u → IsMarked old u
   pub others : (u : ℕ) → (u ≡ var → ⊥) → IsMarked old u → IsMarked new u
   pub marked : new.marked.items ≡ old.marked.items
+  pub named : new.named.items ≡ old.named.items
+
+-- the variable of a literal is not marked any more, and the literal is named
+pub record Names (old new : Marks) (code : ℕ) : Type 0 where
+  pub fewer : (u : ℕ) → IsMarked new u → IsMarked old u
+  pub others : (u : ℕ) → (u ≡ code / 2 → ⊥) → IsMarked old u → IsMarked new u
+  pub marked : new.marked.items ≡ old.marked.items
+  pub named : new.named.items ≡ old.named.items ++ code ∷ []
 
 -- a literal is false, and marked unless it is so by the formula alone
 abbrev pub IsCovered : Trail → Marks → ℕ → Type 0
@@ -38,19 +47,29 @@ pub record IsCoveredBeside (t : Trail) (m : Marks) (apart code : ℕ) : Type 0 w
   pub other : code / 2 ≡ apart / 2 → ⊥
   pub covered : IsCovered t m code
 
--- the other literals of some clause are covered, so that it makes the literal at a place true
-pub record IsRedundantAt (clauses : List (List ℕ)) (t : Trail) (m : Marks) (place : ℕ) : Type 0 where
-  pub number : ℕ
-  pub within : number < length clauses
-  pub covers : (k : ℕ) → k < length (slice_index_or clauses number []) → (slice_index (slice_index_or clauses number []) k ≡ code_at t place) ⊎ IsCoveredBeside t m (code_at t place) (slice_index (slice_index_or clauses number []) k)
-
--- no model makes each marked literal of the trail true
-pub record MarksRefute (formula : Formula) (t : Trail) (m : Marks) : Type 0 where
-  pub refutes : (bits : List Bool) → IsModelOf formula bits → ((i : ℕ) → i < t.len → IsMarked m (code_at t i / 2) → Agrees bits (code_at t i)) → ⊥
-
 -- each model makes some literal of the clause true
 pub record IsImplied (formula : Formula) (codes : List ℕ) : Type 0 where
-  pub implies : (bits : List Bool) → IsModelOf formula bits → AreDenied bits codes → ⊥
+  pub implies : (bits : List Bool) → AreMetBy formula bits → AreDenied bits codes → ⊥
+
+-- the other literals of some implied clause are covered, so that it makes the literal at a place true
+pub record IsRedundantAt (formula : Formula) (t : Trail) (m : Marks) (place : ℕ) : Type 0 where
+  pub codes : List ℕ
+  pub implied : IsImplied formula codes
+  pub covers : (k : ℕ) → k < length codes → (slice_index codes k ≡ code_at t place) ⊎ IsCoveredBeside t m (code_at t place) (slice_index codes k)
+
+-- an assignment makes each coded literal true
+abbrev pub AgreesWithAll : List Bool → List ℕ → Type 0
+AgreesWithAll bits codes = (k : ℕ) → k < length codes → Agrees bits (slice_index codes k)
+
+-- no model makes each marked literal of the trail and each named literal true
+pub record MarksRefute (formula : Formula) (t : Trail) (m : Marks) : Type 0 where
+  pub refutes : (bits : List Bool) → AreMetBy formula bits → AgreesWithAll bits m.named.items → ((i : ℕ) → i < t.len → IsMarked m (code_at t i / 2) → Agrees bits (code_at t i)) → ⊥
+
+-- marks that are sound, and refute the trail
+pub record AreMarks (formula : Formula) (t : Trail) (m : Marks) : Type 0 where
+  pub stamps : AreStamps m (length t.values.items)
+  pub listed : AreListed m t
+  pub refute : MarksRefute formula t m
 
 -- each literal is false by a literal below a place
 pub record AreFalseBelow (t : Trail) (codes : List ℕ) (place : ℕ) : Type 0 where

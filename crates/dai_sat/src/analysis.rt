@@ -1,12 +1,14 @@
-ghost use Rattle.std.specs.Prelude.{◌≡◌, ◌/◌, ◌<◌, ◌⊎◌, length, IsTrue, IfOk, OnOk};
-ghost use Rattle.dai_sat.specs.Trail.{IsTrail, IsForced, AreImplied};
-ghost use Rattle.dai_sat.specs.Marks.{IsMarked, AreStamps, AreListed, MarksRefute, IsImplied};
+ghost use Rattle.std.specs.Prelude.{◌≡◌, ◌/◌, ◌<◌, ◌⊎◌, [], length, IsTrue, IfOk, OnOk};
+ghost use Rattle.dai_sat.specs.Trail.{IsSound, IsTrail};
+ghost use Rattle.dai_sat.specs.Marks.{IsMarked, AreStamps, AreMarks, IsImplied};
 ghost use Rattle.dai_sat.specs.Answers.{IsResolution};
 
+use crate::clauses::clause;
 use crate::cnf::Cnf;
+use crate::codes::negation;
 use crate::lists::Lists;
 use crate::marks::Marks;
-use crate::trail::{Trail, negation};
+use crate::trail::Trail;
 use crate::uses::Uses;
 use dai_base::Spent;
 
@@ -21,80 +23,75 @@ pub enum Resolved {
 }
 
 /// Replaces a marked literal by the other literals of its reason. The answer is false where it has none.
-fn resolve_at(
+pub fn resolve_at(
     cnf: &Cnf,
-    clauses: &Lists<u32>,
+    learned: &Lists<u32>,
     trail: &Trail,
     marks: &mut Marks,
     uses: &mut Uses,
     place: usize,
     start: usize,
 ) -> Result<bool, Spent>
-    requires trail { IsTrail trail.now }
-    requires forced { IsForced cnf.now trail.now }
-    requires implied { AreImplied cnf.now clauses.now }
-    requires stamps { AreStamps marks.old (length trail.now.values.items) }
-    requires listed { AreListed marks.old trail.now }
-    requires refute { MarksRefute cnf.now trail.now marks.old }
+    requires sound { IsSound cnf.now learned.now trail.now }
+    requires marks { AreMarks cnf.now trail.now marks.old }
     requires within { place < trail.now.len }
     ensures stamps { OnOk result (AreStamps marks.new (length trail.now.values.items)) }
-    ensures listed { OnOk result (AreListed marks.new trail.now) }
-    ensures refute { IfOk result (λ r. IsTrue r → MarksRefute cnf.now trail.now marks.new) }
+    ensures marks { IfOk result (λ r. IsTrue r → AreMarks cnf.now trail.now marks.new) }
+    ensures named { OnOk result (marks.new.named.items ≡ marks.old.named.items) }
 {
     let reason = trail.reasons[place];
-    if reason >= clauses.len() {
+    let Some(codes) = clause(cnf, learned, reason) else {
         return Ok(false);
-    }
-    uses.note(reason);
+    };
+    uses.note(cnf, reason);
     let code = trail.codes[place];
     marks.unmark(code as usize / 2);
-    marks.mark_clause(trail, clauses.list(reason), Some(code), start)
+    marks.mark_clause(trail, codes, Some(code), start)
 }
 
 /// Marks the literals of a clause that has only false ones.
 fn begin(
     cnf: &Cnf,
-    clauses: &Lists<u32>,
+    learned: &Lists<u32>,
     trail: &Trail,
     marks: &mut Marks,
     uses: &mut Uses,
     conflict: usize,
     start: usize,
 ) -> Result<bool, Spent>
-    requires trail { IsTrail trail.now }
-    requires forced { IsForced cnf.now trail.now }
-    requires implied { AreImplied cnf.now clauses.now }
+    requires sound { IsSound cnf.now learned.now trail.now }
     requires stamps { AreStamps marks.old (length trail.now.values.items) }
     ensures stamps { OnOk result (AreStamps marks.new (length trail.now.values.items)) }
-    ensures listed { IfOk result (λ r. IsTrue r → AreListed marks.new trail.now) }
-    ensures refute { IfOk result (λ r. IsTrue r → MarksRefute cnf.now trail.now marks.new) }
+    ensures marks { IfOk result (λ r. IsTrue r → AreMarks cnf.now trail.now marks.new) }
+    ensures named { IfOk result (λ r. IsTrue r → marks.new.named.items ≡ []) }
 {
-    if conflict >= clauses.len() || !marks.restart() {
+    let Some(codes) = clause(cnf, learned, conflict) else {
+        return Ok(false);
+    };
+    if !marks.restart() {
         return Ok(false);
     }
-    uses.note(conflict);
-    marks.mark_clause(trail, clauses.list(conflict), None, start)
+    uses.note(cnf, conflict);
+    marks.mark_clause(trail, codes, None, start)
 }
 
 /// Resolves a clause that has only false literals with reasons, from the end of the trail down, until one
 /// literal since the last decision, which stands at `start`, is left.
 pub fn resolve(
     cnf: &Cnf,
-    clauses: &Lists<u32>,
+    learned: &Lists<u32>,
     trail: &Trail,
     marks: &mut Marks,
     uses: &mut Uses,
     conflict: usize,
     start: usize,
 ) -> Result<Resolved, Spent>
-    requires trail { IsTrail trail.now }
-    requires forced { IsForced cnf.now trail.now }
-    requires implied { AreImplied cnf.now clauses.now }
+    requires sound { IsSound cnf.now learned.now trail.now }
     requires stamps { AreStamps marks.old (length trail.now.values.items) }
     ensures stamps { OnOk result (AreStamps marks.new (length trail.now.values.items)) }
     ensures left { IfOk result (IsResolution cnf.now trail.now marks.new) }
 {
-    if !begin(cnf, clauses, trail, marks, uses, conflict, start)? {
+    if !begin(cnf, learned, trail, marks, uses, conflict, start)? {
         return Ok(Resolved::Stuck);
     }
     let mut end = trail.len;
@@ -102,7 +99,7 @@ pub fn resolve(
         if marks.open <= 1 {
             return Ok(Resolved::At(place));
         }
-        if !resolve_at(cnf, clauses, trail, marks, uses, place, start)? {
+        if !resolve_at(cnf, learned, trail, marks, uses, place, start)? {
             return Ok(Resolved::Stuck);
         }
         end = place;
@@ -130,9 +127,8 @@ pub fn learn(
     learned: &mut Vec<u32>,
 ) -> Result<(), Spent>
     requires trail { IsTrail trail.now }
-    requires stamps { AreStamps marks.now (length trail.now.values.items) }
-    requires listed { AreListed marks.now trail.now }
-    requires refute { MarksRefute cnf.now trail.now marks.now }
+    requires marks { AreMarks cnf.now trail.now marks.now }
+    requires unnamed { marks.now.named.items ≡ [] }
     requires within { place < trail.now.len }
     ensures { OnOk result (IsImplied cnf.now learned.new.items) }
 {

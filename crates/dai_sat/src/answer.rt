@@ -1,3 +1,5 @@
+use crate::cnf::Lit;
+
 /// What a solver answers.
 #[derive(Debug, Drop, PartialEq, Eq)]
 pub enum Answer {
@@ -5,4 +7,13 @@ pub enum Answer {
     Model(Vec<bool>),
     /// No assignment meets the clauses.
     Unsat,
+}
+
+/// What a solver answers under assumptions.
+#[derive(Debug, Drop, PartialEq, Eq)]
+pub enum Outcome {
+    /// A value for each variable, by its number.
+    Model(Vec<bool>),
+    /// No assignment meets the clauses and these of the assumptions.
+    Unsat(Vec<Lit>),
 }

@@ -1,11 +1,13 @@
 ghost use Rattle.std.specs.Prelude.{◌≡◌, ◌<◌, ◌≤◌, false, ℕ, length, IsTrue, IfOk, OnOk};
-ghost use Rattle.dai_sat.specs.Formula.{IsUnsatisfiable};
-ghost use Rattle.dai_sat.specs.Trail.{IsTrail, IsForced, AreImplied, KeepsDecisions, IsRefuted, rank_of};
+ghost use Rattle.dai_sat.specs.Formula.{IsContradiction};
+ghost use Rattle.dai_sat.specs.Trail.{IsTrail, IsSound, KeepsDecisions, IsRefuted, rank_of};
 ghost use Rattle.dai_sat.specs.Marks.{IsImplied, IsUnitAt, AreFalseBelow};
 
+use crate::clauses::learned_name;
 use crate::cnf::Cnf;
+use crate::codes::negation;
 use crate::lists::Lists;
-use crate::trail::{DECISION, FLIPPED, Trail, negation};
+use crate::trail::{DECISION, FLIPPED, Trail};
 use crate::watches::Watches;
 use dai_base::Spent;
 
@@ -72,46 +74,41 @@ pub fn is_unit_at(trail: &Trail, codes: &[u32], place: usize) -> bool
     at >= place && are_false_below(trail, &codes[1..], place)
 }
 
-/// Goes back to a place where the clause has one free literal, its first, and makes that one true.
+/// Goes back to a place where the clause has one free literal, its first, and makes that one true. The
+/// clause is learned.
 pub fn jump(
     cnf: &Cnf,
-    clauses: &mut Lists<u32>,
+    learned: &mut Lists<u32>,
     watches: &mut Watches,
     trail: &mut Trail,
     codes: &[u32],
     target: Target,
 ) -> Result<(), Spent>
-    requires trail { IsTrail trail.old }
-    requires forced { IsForced cnf.now trail.old }
-    requires implied { AreImplied cnf.now clauses.old }
-    requires learned { IsImplied cnf.now codes.now }
+    requires sound { IsSound cnf.now learned.old trail.old }
+    requires implied { IsImplied cnf.now codes.now }
     requires unit { IsUnitAt trail.old codes.now target.place }
-    ensures trail { OnOk result (IsTrail trail.new) }
-    ensures forced { OnOk result (IsForced cnf.now trail.new) }
-    ensures implied { OnOk result (AreImplied cnf.now clauses.new) }
+    ensures sound { OnOk result (IsSound cnf.now learned.new trail.new) }
     ensures kept { OnOk result (KeepsDecisions trail.old trail.new) }
     ensures rank { OnOk result (rank_of trail.new < rank_of trail.old) }
 {
     let first = codes[0];
-    clauses.add(codes)?;
-    let number = clauses.len() - 1;
-    watches.enter_pair(codes.len(), first, target.second)?;
+    let name = learned_name(learned.len());
+    learned.add(codes)?;
+    watches.enter_learned(codes, first, target.second)?;
     trail.cut(target.place);
-    trail.assign(first, number);
+    trail.assign(first, name);
     Ok(())
 }
 
 /// Turns the last decision round, where no model makes each literal of the trail true. Without a decision
 /// the formula has no model, and the answer is false.
-pub fn flip(cnf: &Cnf, trail: &mut Trail) -> bool
-    requires trail { IsTrail trail.old }
-    requires forced { IsForced cnf.now trail.old }
+pub fn flip(cnf: &Cnf, learned: &Lists<u32>, trail: &mut Trail) -> bool
+    requires sound { IsSound cnf.now learned.now trail.old }
     requires refuted { IsRefuted cnf.now trail.old }
-    ensures trail { IsTrail trail.new }
-    ensures forced { IsForced cnf.now trail.new }
+    ensures sound { IsSound cnf.now learned.now trail.new }
     ensures kept { KeepsDecisions trail.old trail.new }
     ensures rank { IsTrue result → rank_of trail.new < rank_of trail.old }
-    ensures none { (result ≡ false) → IsUnsatisfiable cnf.now }
+    ensures none { (result ≡ false) → IsContradiction cnf.now }
 {
     let Some(place) = trail.last_decision() else {
         return false;

@@ -1,6 +1,7 @@
-ghost use Rattle.std.specs.Prelude.{◌≡◌, ◌+◌, ◌<◌, ◌^◌, ◌++◌, ◌∷◌, [], OnOk, OnErr};
+ghost use Rattle.std.specs.Prelude.{◌≡◌, ◌+◌, ◌<◌, ◌^◌, ◌++◌, ◌∷◌, [], length, OnOk, OnErr};
 ghost use Rattle.dai_sat.specs.Formula.{IsBelow, formula_of};
 
+use crate::codes::encode;
 use crate::lists::Lists;
 use dai_base::Spent;
 use std::alloc::Global;
@@ -18,18 +19,27 @@ pub struct Lit {
 #[derive(Drop)]
 pub struct Cnf {
     count: usize,
-    lists: Lists<Lit>,
+    /// The literals of each clause as numbers.
+    lists: Lists<u32>,
+    /// The clause that is being added.
+    draft: Vec<u32>,
 }
 
 impl Model for Cnf {
+    ghost use Rattle.std.specs.Prelude.{map};
     ghost use Rattle.dai_sat.specs.Formula.{Formula, formula_of};
+    ghost use Rattle.dai_sat.specs.Codes.{lit_of, AreBelow};
 
     ghost Value = { Formula };
 
-    ghost view = { λ c. formula_of c.count c.lists };
+    ghost view = { λ c. formula_of c.count (map (map lit_of) c.lists) };
+
+    ghost invariant = { λ c. AreBelow c.count c.lists };
 }
 
 impl Cnf {
+    ghost use Rattle.dai_sat.specs.Codes.{AreCodesOf};
+
     /// The formula of this many variables with no clause. Takes no memory.
     pub fn new(alloc: Global, vars: usize) -> Cnf
         ensures { result ≡ formula_of vars [] }
@@ -37,6 +47,7 @@ impl Cnf {
         Cnf {
             count: vars,
             lists: Lists::new(alloc),
+            draft: Vec::new(alloc),
         }
     }
 
@@ -52,13 +63,19 @@ impl Cnf {
     }
 
     /// Adds a clause: any list of literals, also an empty one, one with a literal twice, or one with a
-    /// literal and its negation. After `Spent` the value is as it was.
+    /// literal and its negation.
+    ///
+    /// # Errors
+    /// `Spent` where memory is wanting, where a variable's number is 2^31 - 1 or more, and where all
+    /// clauses together would have 2^32 literals. The value is then as it was.
     pub fn add(&mut self, lits: &[Lit]) -> Result<(), Spent>
         requires { IsBelow self.old.vars lits.now }
         ensures ok { OnOk result (self.new ≡ formula_of self.old.vars (self.old.clauses ++ lits.now ∷ [])) }
         ensures err { OnErr result (self.new ≡ self.old) }
     {
-        self.lists.add(lits)
+        encode(lits, &mut self.draft)?;
+        self.lists.add(self.draft.as_slice())?;
+        Ok(())
     }
 
     /// The number of variables.
@@ -68,10 +85,18 @@ impl Cnf {
         self.count
     }
 
-    /// The clauses, one after another.
-    pub fn clauses(&self) -> &Lists<Lit>
-        ensures { result.now ≡ self.now.clauses }
+    /// The number of clauses.
+    pub fn clause_count(&self) -> usize
+        ensures { result ≡ length self.now.clauses }
     {
-        &self.lists
+        self.lists.len()
+    }
+
+    /// The literals of a clause as numbers.
+    pub(crate) fn clause(&self, number: usize) -> &[u32]
+        requires { number < length self.now.clauses }
+        ensures { AreCodesOf self.now number result.now }
+    {
+        self.lists.list(number)
     }
 }

@@ -1,25 +1,38 @@
-//! A clause-learning solver for formulas in conjunctive form. It answers the least model under the
-//! preferences of a guide, or that there is no model, and has no budget.
+//! A clause-learning solver for formulas in conjunctive form, in two forms over one search: `solve` answers
+//! the least model under the preferences of a guide, and a `Solver` answers any model under assumptions and
+//! keeps what it learned. Neither has a budget.
 #![tactic(auto)]
 
-pub mod analysis;
-pub mod answer;
-pub mod backjump;
-pub mod cnf;
-pub mod guide;
-pub mod lists;
-pub mod load;
-pub mod marks;
-pub mod minimize;
-pub mod propagation;
-pub mod solver;
+mod analysis;
+mod answer;
+mod assumptions;
+mod backjump;
+mod clauses;
+mod cnf;
+mod codes;
+mod desk;
+mod entry;
+mod failed;
+mod guide;
+mod least;
+mod lists;
+mod marks;
+mod minimize;
+mod model;
+mod order;
+mod pace;
+mod propagation;
+mod question;
+mod solver;
+mod step;
 #[cfg(test)]
 mod tests;
-pub mod trail;
-pub mod uses;
-pub mod watches;
+mod trail;
+mod uses;
+mod watches;
 
-pub use answer::Answer;
+pub use answer::{Answer, Outcome};
 pub use cnf::{Cnf, Lit};
 pub use guide::Guide;
-pub use solver::{Solved, solve, solve_counted};
+pub use least::{Solved, solve, solve_counted};
+pub use solver::Solver;

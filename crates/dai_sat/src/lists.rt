@@ -4,11 +4,14 @@ use dai_base::Spent;
 use std::alloc::Global;
 use std::marker::Model;
 
+/// How many items there may be in all lists.
+const MOST_ITEMS: usize = 0xffff_ffff;
+
 /// Where a list stands among all items.
 #[derive(Clone, Copy)]
 pub struct Span {
-    pub start: usize,
-    pub end: usize,
+    pub start: u32,
+    pub end: u32,
 }
 
 /// A growing list of lists, held in one flat array. A contract sees the list of lists alone.
@@ -54,18 +57,24 @@ impl<T: Copy> Lists<T> {
         ensures { result.now ≡ slice_index_or self.now number [] }
     {
         let span = self.spans[number];
-        &self.items[span.start..span.end]
+        &self.items[span.start as usize..span.end as usize]
     }
 
-    /// Appends a list. After `Spent` the value is as it was.
+    /// Appends a list. After `Spent`, which also comes where there would be 2^32 items, the value is as it was.
     pub fn add(&mut self, list: &[T]) -> Result<(), Spent>
         ensures ok { OnOk result (self.new ≡ self.old ++ list.now ∷ []) }
         ensures err { OnErr result (self.new ≡ self.old) }
     {
         let start = self.items.len();
+        if start > MOST_ITEMS || list.len() > MOST_ITEMS - start {
+            return Err(Spent);
+        }
         self.items.extend_from_slice(list)?;
         let end = self.items.len();
-        self.spans.push(Span { start, end })?;
+        self.spans.push(Span {
+            start: start as u32,
+            end: end as u32,
+        })?;
         Ok(())
     }
 }

@@ -1,6 +1,6 @@
-ghost use Rattle.std.specs.Prelude.{◌≡◌, ◌/◌, ◌<◌, ◌≤◌, ◌↔◌, ◌⊎◌, ℕ, Some, false, length, IsTrue, IfOk, OnOk, MatchOption, slice_index};
+ghost use Rattle.std.specs.Prelude.{◌≡◌, ◌/◌, ◌<◌, ◌≤◌, ◌↔◌, ◌⊎◌, ℕ, Some, false, [], length, IsTrue, IfOk, OnOk, MatchOption, slice_index};
 ghost use Rattle.dai_sat.specs.Trail.{IsTrail, IsFalseIn, code_at};
-ghost use Rattle.dai_sat.specs.Marks.{IsMarked, AreStamps, AreListed, MarksMore, Unmarks, IsCovered};
+ghost use Rattle.dai_sat.specs.Marks.{IsMarked, AreStamps, AreListed, MarksMore, Unmarks, Names, IsCovered};
 
 use crate::trail::Trail;
 use dai_base::Spent;
@@ -15,6 +15,8 @@ pub struct Marks {
     pub stamp: u64,
     /// The false literals that were marked under it.
     pub marked: Vec<u32>,
+    /// Literals beside the marked ones: the two together have no model. Empty while a clause is learned.
+    pub named: Vec<u32>,
     /// How many of the marked variables were assigned since the last decision. It only guides.
     pub open: usize,
 }
@@ -30,16 +32,29 @@ fn is_same(literal: Option<u32>, code: u32) -> bool
 }
 
 impl Marks {
-    /// No mark, over this many variables.
-    pub fn new(alloc: Global, vars: usize) -> Result<Marks, Spent>
-        ensures { IfOk result (λ m. AreStamps m vars) }
+    /// No mark, over no variable. Takes no memory.
+    pub fn new(alloc: Global) -> Marks
+        ensures { AreStamps result 0 }
     {
-        Ok(Marks {
-            stamps: vec![in alloc; 0u64; vars]?,
+        Marks {
+            stamps: Vec::new(alloc),
             stamp: 1,
             marked: Vec::new(alloc),
+            named: Vec::new(alloc),
             open: 0,
-        })
+        }
+    }
+
+    /// Makes room for this many variables; the new ones are not marked.
+    pub fn fit(&mut self, vars: usize) -> Result<(), Spent>
+        requires stamps { AreStamps self.old (length self.old.stamps.items) }
+        requires more { length self.old.stamps.items ≤ vars }
+        ensures { OnOk result (AreStamps self.new vars) }
+    {
+        while self.stamps.len() < vars {
+            self.stamps.push(0)?;
+        }
+        Ok(())
     }
 
     /// Takes all marks away, by a new stamp. Where there is no newer one the answer is false.
@@ -47,6 +62,7 @@ impl Marks {
         requires { AreStamps self.old (length self.old.stamps.items) }
         ensures stamps { AreStamps self.new (length self.old.stamps.items) }
         ensures clear { IsTrue result → (var : ℕ) → IsMarked self.new var → ⊥ }
+        ensures unnamed { IsTrue result → self.new.named.items ≡ [] }
         ensures last { (result ≡ false) → self.old.stamp ≡ u64.MAX }
     {
         if self.stamp == u64::MAX {
@@ -54,6 +70,7 @@ impl Marks {
         }
         self.stamp += 1;
         self.marked.clear();
+        self.named.clear();
         self.open = 0;
         true
     }
@@ -100,8 +117,19 @@ impl Marks {
         self.open = self.open.saturating_sub(1);
     }
 
+    /// Names the literal of a variable and takes the variable's mark away.
+    pub fn name(&mut self, code: u32) -> Result<(), Spent>
+        requires { AreStamps self.old (length self.old.stamps.items) }
+        ensures stamps { OnOk result (AreStamps self.new (length self.old.stamps.items)) }
+        ensures names { OnOk result (Names self.old self.new code) }
+    {
+        self.named.push(code)?;
+        self.unmark(code as usize / 2);
+        Ok(())
+    }
+
     /// Marks a false literal, unless it is false by the formula alone. Literals from `start` on are counted.
-    fn cover(&mut self, trail: &Trail, code: u32, start: usize) -> Result<(), Spent>
+    pub fn cover(&mut self, trail: &Trail, code: u32, start: usize) -> Result<(), Spent>
         requires stamps { AreStamps self.old (length trail.now.values.items) }
         requires listed { AreListed self.old trail.now }
         requires trail { IsTrail trail.now }

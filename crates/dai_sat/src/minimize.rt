@@ -1,7 +1,8 @@
 ghost use Rattle.std.specs.Prelude.{◌≡◌, ◌/◌, ◌<◌, ◌⊎◌, ℕ, length, IsTrue, slice_index};
-ghost use Rattle.dai_sat.specs.Trail.{IsTrail, IsForced, AreImplied};
-ghost use Rattle.dai_sat.specs.Marks.{AreStamps, AreListed, MarksRefute, IsCoveredBeside, IsRedundantAt};
+ghost use Rattle.dai_sat.specs.Trail.{IsSound};
+ghost use Rattle.dai_sat.specs.Marks.{AreMarks, IsCoveredBeside, IsRedundantAt};
 
+use crate::clauses::clause;
 use crate::cnf::Cnf;
 use crate::lists::Lists;
 use crate::marks::Marks;
@@ -39,43 +40,38 @@ fn are_covered(trail: &Trail, marks: &Marks, codes: &[u32], apart: u32) -> bool
 }
 
 /// Whether the literal at a place follows from other marked ones by its reason alone.
-fn is_redundant(clauses: &Lists<u32>, trail: &Trail, marks: &Marks, place: usize) -> bool
-    requires trail { IsTrail trail.now }
+fn is_redundant(cnf: &Cnf, learned: &Lists<u32>, trail: &Trail, marks: &Marks, place: usize) -> bool
+    requires sound { IsSound cnf.now learned.now trail.now }
     requires stamp { 0 < marks.now.stamp }
     requires within { place < trail.now.len }
-    ensures { IsTrue result → IsRedundantAt clauses.now trail.now marks.now place }
+    ensures { IsTrue result → IsRedundantAt cnf.now trail.now marks.now place }
 {
     let reason = trail.reasons[place];
-    if reason >= clauses.len() {
+    let Some(codes) = clause(cnf, learned, reason) else {
         return false;
-    }
-    are_covered(trail, marks, clauses.list(reason), trail.codes[place])
+    };
+    are_covered(trail, marks, codes, trail.codes[place])
 }
 
 /// Takes the mark of a variable away, where its literal is redundant and another than that at `last`.
 fn unmark_redundant(
     cnf: &Cnf,
-    clauses: &Lists<u32>,
+    learned: &Lists<u32>,
     trail: &Trail,
     marks: &mut Marks,
     var: usize,
     last: usize,
 )
-    requires trail { IsTrail trail.now }
-    requires forced { IsForced cnf.now trail.now }
-    requires implied { AreImplied cnf.now clauses.now }
-    requires stamps { AreStamps marks.old (length trail.now.values.items) }
-    requires listed { AreListed marks.old trail.now }
-    requires refute { MarksRefute cnf.now trail.now marks.old }
-    ensures stamps { AreStamps marks.new (length trail.now.values.items) }
-    ensures listed { AreListed marks.new trail.now }
-    ensures refute { MarksRefute cnf.now trail.now marks.new }
+    requires sound { IsSound cnf.now learned.now trail.now }
+    requires marks { AreMarks cnf.now trail.now marks.old }
+    ensures marks { AreMarks cnf.now trail.now marks.new }
+    ensures named { marks.new.named.items ≡ marks.old.named.items }
 {
     let place = trail.places.get(var).copied().unwrap_or(last);
     if place == last || place >= trail.len || !marks.is_marked(var) {
         return;
     }
-    if !is_redundant(clauses, trail, marks, place) {
+    if !is_redundant(cnf, learned, trail, marks, place) {
         return;
     }
     marks.unmark(trail.codes[place] as usize / 2);
@@ -83,21 +79,16 @@ fn unmark_redundant(
 
 /// Takes the marks of literals away that follow from other marked ones by a single clause, so that a shorter
 /// clause is learned (Sörensson and Biere, 2009). The literal at `last` keeps its mark.
-pub fn minimize(cnf: &Cnf, clauses: &Lists<u32>, trail: &Trail, marks: &mut Marks, last: usize)
-    requires trail { IsTrail trail.now }
-    requires forced { IsForced cnf.now trail.now }
-    requires implied { AreImplied cnf.now clauses.now }
-    requires stamps { AreStamps marks.old (length trail.now.values.items) }
-    requires listed { AreListed marks.old trail.now }
-    requires refute { MarksRefute cnf.now trail.now marks.old }
-    ensures stamps { AreStamps marks.new (length trail.now.values.items) }
-    ensures listed { AreListed marks.new trail.now }
-    ensures refute { MarksRefute cnf.now trail.now marks.new }
+pub fn minimize(cnf: &Cnf, learned: &Lists<u32>, trail: &Trail, marks: &mut Marks, last: usize)
+    requires sound { IsSound cnf.now learned.now trail.now }
+    requires marks { AreMarks cnf.now trail.now marks.old }
+    ensures marks { AreMarks cnf.now trail.now marks.new }
+    ensures named { marks.new.named.items ≡ marks.old.named.items }
 {
     for number in 0..marks.marked.len() {
         let Some(code) = marks.marked.get(number).copied() else {
             return;
         };
-        unmark_redundant(cnf, clauses, trail, marks, code as usize / 2, last);
+        unmark_redundant(cnf, learned, trail, marks, code as usize / 2, last);
     }
 }

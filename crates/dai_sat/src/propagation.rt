@@ -1,11 +1,14 @@
-ghost use Rattle.std.specs.Prelude.{◌≡◌, ◌<◌, ◌≤◌, ◌⊎◌, ℕ, length, IfOk, OnOk, MatchOption, IfNone, IfSome, slice_index, slice_index_or, []};
-ghost use Rattle.dai_sat.specs.Trail.{IsFalseIn, IsTrail, IsForced, AreImplied, KeepsDecisions, IsRefuted, rank_of};
+ghost use Rattle.std.specs.Prelude.{◌≡◌, ◌<◌, ◌≤◌, ◌⊎◌, ◌^◌, ℕ, length, IsTrue, IfOk, IfNone, IfSome, slice_index};
+ghost use Rattle.dai_sat.specs.Trail.{IsFalseIn, IsSound, KeepsDecisions, IsRefuted, rank_of};
+ghost use Rattle.dai_sat.specs.Marks.{IsImplied};
 ghost use Rattle.dai_sat.specs.Answers.{RefutesOnConflict};
 
+use crate::clauses::clause;
 use crate::cnf::Cnf;
+use crate::codes::negation;
 use crate::lists::Lists;
-use crate::trail::{Trail, negation};
-use crate::watches::{Watch, Watches};
+use crate::trail::Trail;
+use crate::watches::{Pair, Watch, Watches};
 use dai_base::Spent;
 use std::alloc::Global;
 
@@ -19,72 +22,133 @@ enum Look {
     Conflict,
 }
 
-/// A literal of the clause other than `apart` that is not false.
-fn open_literal(trail: &Trail, codes: &[u32], apart: u32) -> Option<u32>
+/// The first literal of the list other than `apart` that is not false, with its place.
+fn open_place(trail: &Trail, codes: &[u32], apart: u32) -> Option<(usize, u32)>
     ensures { IfNone result ((k : ℕ) → k < length codes.now → (slice_index codes.now k ≡ apart) ⊎ IsFalseIn trail.now (slice_index codes.now k)) }
 {
-    for code in codes {
+    for (place, code) in codes.iter().enumerate() {
         if *code != apart && !trail.is_false(*code) {
-            return Some(*code);
+            return Some((place, *code));
         }
     }
     None
 }
 
+/// A literal of the clause other than `apart` that is not false, and its place. The search begins at
+/// `start`.
+pub fn open_literal(trail: &Trail, codes: &[u32], apart: u32, start: usize) -> Option<(usize, u32)>
+    ensures { IfNone result ((k : ℕ) → k < length codes.now → (slice_index codes.now k ≡ apart) ⊎ IsFalseIn trail.now (slice_index codes.now k)) }
+{
+    let (front, back) = codes.split_at(start.min(codes.len()));
+    match open_place(trail, back, apart) {
+        Some((place, code)) => Some((place.saturating_add(front.len()), code)),
+        None => open_place(trail, front, apart),
+    }
+}
+
+/// Makes a literal true that follows from a clause whose other literals are false. The answer is true where
+/// it is false too.
+pub fn follow(
+    cnf: &Cnf,
+    learned: &Lists<u32>,
+    trail: &mut Trail,
+    name: usize,
+    codes: &[u32],
+    code: u32,
+) -> bool
+    requires sound { IsSound cnf.now learned.now trail.old }
+    requires implied { IsImplied cnf.now codes.now }
+    requires others { (k : ℕ) → k < length codes.now → (slice_index codes.now k ≡ code) ⊎ IsFalseIn trail.old (slice_index codes.now k) }
+    requires clause { name < 2 ^ 32 }
+    ensures sound { IsSound cnf.now learned.now trail.new }
+    ensures kept { KeepsDecisions trail.old trail.new }
+    ensures rank { rank_of trail.new ≤ rank_of trail.old }
+    ensures head { trail.new.head ≡ trail.old.head }
+    ensures conflict { IsTrue result → IsRefuted cnf.now trail.new }
+{
+    if trail.is_free(code) {
+        trail.assign(code, name);
+        return false;
+    }
+    trail.is_false(code)
+}
+
+/// What a clause watches that leaves a false literal.
+fn moved(other: u32, open: u32, code: u32, place: u32) -> Pair {
+    Pair {
+        first: other,
+        second: open,
+        spare: code,
+        place,
+    }
+}
+
 /// Looks at a clause one of whose watched literals became false.
 fn look_at(
     cnf: &Cnf,
-    clauses: &Lists<u32>,
+    learned: &Lists<u32>,
     watches: &mut Watches,
     trail: &mut Trail,
     watch: Watch,
     code: u32,
 ) -> Result<Look, Spent>
-    requires trail { IsTrail trail.old }
-    requires forced { IsForced cnf.now trail.old }
-    requires implied { AreImplied cnf.now clauses.now }
-    ensures trail { IsTrail trail.new }
-    ensures forced { IsForced cnf.now trail.new }
+    requires { IsSound cnf.now learned.now trail.old }
+    ensures sound { IsSound cnf.now learned.now trail.new }
     ensures kept { KeepsDecisions trail.old trail.new }
     ensures rank { rank_of trail.new ≤ rank_of trail.old }
     ensures head { trail.new.head ≡ trail.old.head }
     ensures conflict { IfOk result (RefutesOnConflict cnf.now trail.new) }
 {
-    let clause = watch.clause as usize;
-    let Some(other) = watches.other(clause, code) else {
+    let name = watch.clause as usize;
+    let Some(pair) = watches.pair(cnf, name) else {
         return Ok(Look::Stays(watch.blocker));
     };
-    if clause >= clauses.len() || trail.is_true(other) {
+    let other = if pair.first == code {
+        pair.second
+    } else {
+        pair.first
+    };
+    if trail.is_true(other) {
         return Ok(Look::Stays(other));
     }
-    match open_literal(trail, clauses.list(clause), other) {
-        Some(open) => {
-            watches.move_to(watch.clause, other, open)?;
+    if pair.spare != other && !trail.is_false(pair.spare) {
+        watches.move_to(
+            cnf,
+            watch.clause,
+            moved(other, pair.spare, code, pair.place),
+        )?;
+        return Ok(Look::Moved);
+    }
+    let Some(codes) = clause(cnf, learned, name) else {
+        return Ok(Look::Stays(other));
+    };
+    match open_literal(trail, codes, other, pair.place as usize) {
+        Some((place, open)) => {
+            let place = u32::try_from(place).unwrap_or(0);
+            watches.move_to(cnf, watch.clause, moved(other, open, code, place))?;
             Ok(Look::Moved)
         }
-        None if trail.is_free(other) => {
-            trail.assign(other, clause);
+        None => {
+            if follow(cnf, learned, trail, name, codes, other) {
+                return Ok(Look::Conflict);
+            }
             Ok(Look::Stays(other))
         }
-        None if trail.is_false(other) => Ok(Look::Conflict),
-        None => Ok(Look::Stays(other)),
     }
 }
 
-/// Looks at each clause that watches a literal that became false.
+/// Looks at each clause that watches a literal that became false. The answer is the name of one that has
+/// only false literals.
 fn look_at_all(
     alloc: Global,
     cnf: &Cnf,
-    clauses: &Lists<u32>,
+    learned: &Lists<u32>,
     watches: &mut Watches,
     trail: &mut Trail,
     code: u32,
 ) -> Result<Option<usize>, Spent>
-    requires trail { IsTrail trail.old }
-    requires forced { IsForced cnf.now trail.old }
-    requires implied { AreImplied cnf.now clauses.now }
-    ensures trail { IsTrail trail.new }
-    ensures forced { IsForced cnf.now trail.new }
+    requires { IsSound cnf.now learned.now trail.old }
+    ensures sound { IsSound cnf.now learned.now trail.new }
     ensures kept { KeepsDecisions trail.old trail.new }
     ensures rank { rank_of trail.new ≤ rank_of trail.old }
     ensures head { trail.new.head ≡ trail.old.head }
@@ -98,7 +162,7 @@ fn look_at_all(
             at += 1;
             continue;
         }
-        match look_at(cnf, clauses, watches, trail, watch, code)? {
+        match look_at(cnf, learned, watches, trail, watch, code)? {
             Look::Stays(blocker) => {
                 list[at] = Watch {
                     clause: watch.clause,
@@ -120,19 +184,16 @@ fn look_at_all(
 }
 
 /// Makes true what follows from the literals of the trail by single clauses, until there is no more or a
-/// clause has only false literals; that one's number is the answer then.
+/// clause has only false literals; that one's name is the answer then.
 pub fn propagate(
     alloc: Global,
     cnf: &Cnf,
-    clauses: &Lists<u32>,
+    learned: &Lists<u32>,
     watches: &mut Watches,
     trail: &mut Trail,
 ) -> Result<Option<usize>, Spent>
-    requires trail { IsTrail trail.old }
-    requires forced { IsForced cnf.now trail.old }
-    requires implied { AreImplied cnf.now clauses.now }
-    ensures trail { IsTrail trail.new }
-    ensures forced { IsForced cnf.now trail.new }
+    requires { IsSound cnf.now learned.now trail.old }
+    ensures sound { IsSound cnf.now learned.now trail.new }
     ensures kept { KeepsDecisions trail.old trail.new }
     ensures rank { rank_of trail.new ≤ rank_of trail.old }
     ensures conflict { IfOk result (λ r. IfSome r (λ _. IsRefuted cnf.now trail.new)) }
@@ -142,7 +203,7 @@ pub fn propagate(
     while trail.head < trail.len {
         let code = trail.codes[trail.head];
         trail.head += 1;
-        let found = look_at_all(alloc, cnf, clauses, watches, trail, negation(code))?;
+        let found = look_at_all(alloc, cnf, learned, watches, trail, negation(code))?;
         if found.is_some() {
             return Ok(found);
         }

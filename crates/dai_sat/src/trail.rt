@@ -1,5 +1,5 @@
 ghost use Rattle.std.specs.Prelude.{◌≡◌, ◌+◌, ◌-◌, ◌*◌, ◌/◌, ◌%◌, ◌<◌, ◌≤◌, ◌^◌, ◌↔◌, ℕ, length, IsTrue, IfOk, OnOk, MatchOption, slice_index};
-ghost use Rattle.dai_sat.specs.Trail.{value_in, code_at, place_of, IsDecision, IsTrueIn, IsFalseIn, IsFreeIn, IsMirror, IsTrail, Enters, CutsTo, rank_of};
+ghost use Rattle.dai_sat.specs.Trail.{value_in, IsDecision, IsTrueIn, IsFalseIn, IsFreeIn, IsOpenIn, IsTrail, Enters, CutsTo, Widens, ForgetsReasons, rank_of};
 
 use dai_base::Spent;
 use std::alloc::Global;
@@ -35,31 +35,40 @@ pub struct Trail {
     pub next: usize,
 }
 
-/// The literal of the same variable with the other sign.
-pub fn negation(code: u32) -> u32
-    ensures variable { result / 2 ≡ code / 2 }
-    ensures sign { result % 2 + code % 2 ≡ 1 }
-{
-    if code % 2 == 0 { code + 1 } else { code - 1 }
-}
-
 impl Trail {
-    /// The empty trail over this many variables.
-    pub fn new(alloc: Global, vars: usize) -> Result<Trail, Spent>
-        ensures trail { IfOk result IsTrail }
-        ensures empty { IfOk result (λ t. t.len ≡ 0) }
-        ensures room { IfOk result (λ t. length t.values.items ≡ vars) }
+    /// The trail over no variable. Takes no memory.
+    pub fn new(alloc: Global) -> Trail
+        ensures trail { IsTrail result }
+        ensures empty { result.len ≡ 0 }
+        ensures room { length result.values.items ≡ 0 }
     {
-        Ok(Trail {
-            values: vec![in alloc; FREE; vars]?,
-            places: vec![in alloc; 0; vars]?,
-            codes: vec![in alloc; 0; vars]?,
-            reasons: vec![in alloc; 0; vars]?,
+        Trail {
+            values: Vec::new(alloc),
+            places: Vec::new(alloc),
+            codes: Vec::new(alloc),
+            reasons: Vec::new(alloc),
             len: 0,
             head: 0,
             root: 0,
             next: 0,
-        })
+        }
+    }
+
+    /// Makes room for this many variables; the new ones are free.
+    pub fn fit(&mut self, vars: usize) -> Result<(), Spent>
+        requires trail { IsTrail self.old }
+        requires more { length self.old.values.items ≤ vars }
+        ensures trail { OnOk result (IsTrail self.new) }
+        ensures room { OnOk result (length self.new.values.items ≡ vars) }
+        ensures same { OnOk result (Widens self.old self.new) }
+    {
+        while self.values.len() < vars {
+            self.values.push(FREE)?;
+            self.places.push(0)?;
+            self.codes.push(0)?;
+            self.reasons.push(0)?;
+        }
+        Ok(())
     }
 
     /// Whether the literal is true.
@@ -92,11 +101,20 @@ impl Trail {
         }
     }
 
-    /// Makes the literal of a free variable true. A decision is made at the first free variable.
+    /// Whether a variable is below the count and has no value.
+    pub fn is_open(&self, var: usize) -> bool
+        ensures { IsTrue result ↔ IsOpenIn self.now var }
+    {
+        match self.values.get(var) {
+            Some(value) => *value >= FREE,
+            None => false,
+        }
+    }
+
+    /// Makes the literal of a free variable true.
     pub fn assign(&mut self, code: u32, reason: usize)
         requires trail { IsTrail self.old }
         requires free { IsFreeIn self.old code }
-        requires first { reason ≡ DECISION → (u : ℕ) → u < code / 2 → value_in self.old u < 2 }
         ensures trail { IsTrail self.new }
         ensures enters { Enters self.old self.new code reason }
         ensures falls { rank_of self.new < rank_of self.old }
@@ -112,16 +130,17 @@ impl Trail {
 
     /// Takes the last literal away.
     fn pop(&mut self)
-        requires mirror { IsMirror self.old }
-        requires some { 0 < self.old.len }
-        ensures mirror { IsMirror self.new }
+        requires trail { IsTrail self.old }
+        requires above { self.old.root < self.old.len }
+        ensures trail { IsTrail self.new }
         ensures cuts { CutsTo self.old self.new (self.old.len - 1) }
-        ensures same { (self.new.head ≡ self.old.head) × (self.new.root ≡ self.old.root) × (self.new.next ≡ self.old.next) }
+        ensures root { self.new.root ≡ self.old.root }
     {
         let place = self.len - 1;
         self.len = place;
         let var = self.codes[place] as usize / 2;
         self.values[var] = FREE;
+        self.next = self.next.min(var);
     }
 
     /// Takes the literals from a decision on away.
@@ -131,12 +150,54 @@ impl Trail {
         requires decision { IsDecision self.old place }
         ensures trail { IsTrail self.new }
         ensures cuts { CutsTo self.old self.new place }
+        ensures root { self.new.root ≡ self.old.root }
     {
         while self.len > place {
             self.pop();
         }
         self.head = place;
-        self.next = self.codes[place] as usize / 2;
+    }
+
+    /// Takes all decisions and what came after them away.
+    pub fn restart(&mut self)
+        requires { IsTrail self.old }
+        ensures trail { IsTrail self.new }
+        ensures within { self.new.len ≤ self.old.len }
+        ensures cuts { CutsTo self.old self.new self.new.len }
+        ensures none { (i : ℕ) → i < self.new.len → IsDecision self.new i → ⊥ }
+    {
+        self.settle_root();
+        let root = self.root;
+        if root < self.len {
+            self.cut(root);
+        }
+    }
+
+    /// Lets the literal at a place have no reason any more, unless it is a decision.
+    fn forget_reason(&mut self, place: usize)
+        requires trail { IsTrail self.old }
+        requires within { place < self.old.len }
+        ensures trail { IsTrail self.new }
+        ensures forgets { ForgetsReasons self.old self.new }
+        ensures here { FLIPPED ≤ slice_index self.new.reasons.items place }
+        ensures others { (i : ℕ) → FLIPPED ≤ slice_index self.old.reasons.items i → FLIPPED ≤ slice_index self.new.reasons.items i }
+    {
+        if self.reasons[place] == DECISION {
+            return;
+        }
+        self.reasons[place] = FLIPPED;
+    }
+
+    /// Lets no literal but decisions have a reason any more.
+    pub fn forget_reasons(&mut self)
+        requires { IsTrail self.old }
+        ensures trail { IsTrail self.new }
+        ensures forgets { ForgetsReasons self.old self.new }
+        ensures none { (i : ℕ) → i < self.new.len → FLIPPED ≤ slice_index self.new.reasons.items i }
+    {
+        for place in 0..self.len {
+            self.forget_reason(place);
+        }
     }
 
     /// The first free variable.
@@ -145,7 +206,7 @@ impl Trail {
         ensures trail { IsTrail self.new }
         ensures same { CutsTo self.old self.new self.old.len }
         ensures values { self.new.values.items ≡ self.old.values.items }
-        ensures answer { MatchOption result ((u : ℕ) → u < length self.old.values.items → value_in self.new u < 2) (λ v. (v < length self.old.values.items) × (2 ≤ value_in self.new v) × ((u : ℕ) → u < v → value_in self.new u < 2)) }
+        ensures answer { MatchOption result ((u : ℕ) → u < length self.old.values.items → value_in self.new u < 2) (λ v. IsOpenIn self.new v × ((u : ℕ) → u < v → value_in self.new u < 2)) }
     {
         while self.next < self.values.len() {
             if self.values[self.next] >= FREE {
@@ -162,6 +223,8 @@ impl Trail {
         ensures trail { IsTrail self.new }
         ensures same { CutsTo self.old self.new self.old.len }
         ensures values { self.new.values.items ≡ self.old.values.items }
+        ensures head { self.new.head ≡ self.old.head }
+        ensures stop { self.new.root < self.new.len → IsDecision self.new self.new.root }
     {
         while self.root < self.len && self.reasons[self.root] != DECISION {
             self.root += 1;

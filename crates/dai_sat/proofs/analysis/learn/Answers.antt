@@ -43,4 +43,4 @@ returns c =
     let here = get_or_read c.args.trail.now.codes.items c.args.place c.index-last.result.now l c.index-last.ensures 0 in
     let P : ℕ → Type 0 = λ n. Gathered c.args.marks.now c.loop-code.learned.items c.index-last.result.now n in
     gathered_implied c.args.cnf.now c.args.trail.now c.args.marks.now c.loop-code.learned.items c.args.place c.index-last.result.now
-    c.requires.trail c.requires.listed c.requires.refute c.requires.within here (subst P at c.loop-code.invariant)
+    c.requires.trail c.requires.marks.listed c.requires.marks.refute c.requires.unnamed c.requires.within here (subst P at c.loop-code.invariant)

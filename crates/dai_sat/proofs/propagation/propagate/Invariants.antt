@@ -1,11 +1,10 @@
 use Rattle.std.proofs.Common.{◌≤◌, ◌-◌, length}
-use Rattle.dai_sat.specs.Trail.{IsTrail, IsForced, KeepsDecisions, rank_of}
+use Rattle.dai_sat.specs.Trail.{IsSound, KeepsDecisions, rank_of}
 use Rattle.dai_sat.proofs.propagation.propagate.Given as goal
 
 abbrev pub invariant-loop-trail : goal.invariant-loop-trail
 invariant-loop-trail l = record {
-  trail : IsTrail l.trail;
-  forced : IsForced l.cnf l.trail;
+  sound : IsSound l.cnf l.learned l.trail;
   kept : KeepsDecisions l.initial.trail l.trail;
   rank : rank_of l.trail ≤ rank_of l.initial.trail;
 }

@@ -15,7 +15,7 @@ overflow_add-self c =
     grind (arith, common_steps)
 
 pub returns-clause-trail : goal.returns-clause-trail
-returns-clause-trail c = assign_trail c.args.self.now _ c.args.code c.args.reason c.requires.trail c.requires.free c.requires.first refl refl refl refl refl refl refl
+returns-clause-trail c = assign_trail c.args.self.now _ c.args.code c.args.reason c.requires.trail c.requires.free refl refl refl refl refl refl refl
 
 pub returns-clause-falls : goal.returns-clause-falls
 returns-clause-falls c = assign_falls c.args.self.now c.args.code c.args.reason c.requires.trail c.requires.free

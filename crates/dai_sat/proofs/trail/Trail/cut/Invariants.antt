@@ -1,10 +1,10 @@
 use Rattle.std.proofs.Common.{◌-◌, ◌≡◌, ◌≤◌}
-use Rattle.dai_sat.specs.Trail.{IsMirror, CutsTo}
+use Rattle.dai_sat.specs.Trail.{IsTrail, CutsTo}
 use Rattle.dai_sat.proofs.trail.Trail.cut.Given as goal
 
 abbrev pub invariant-loop-self : goal.invariant-loop-self
 invariant-loop-self l = record {
-  mirror : IsMirror l.self;
+  trail : IsTrail l.self;
   cuts : CutsTo l.initial.self l.self l.self.len;
   above : l.place ≤ l.self.len;
   root : l.self.root ≡ l.initial.self.root;

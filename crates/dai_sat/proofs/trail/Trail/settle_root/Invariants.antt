@@ -6,6 +6,7 @@ abbrev pub invariant-loop-self : goal.invariant-loop-self
 invariant-loop-self l = record {
   trail : IsTrail l.self;
   cuts : CutsTo l.initial.self l.self l.initial.self.len;
+  head : l.self.head ≡ l.initial.self.head;
   values : l.self.values.items ≡ l.initial.self.values.items;
 }
 

@@ -1,6 +1,0 @@
-use Rattle.std.proofs.Common.{◌<◌, ℕ, [], get_or}
-use Rattle.dai_sat.specs.Formula.{IsMetBy}
-use Rattle.dai_sat.proofs.solver.meets.Given as goal
-
-abbrev pub invariant-loop-number : goal.invariant-loop-number
-invariant-loop-number l = (k : ℕ) → k < l.number → IsMetBy (get_or l.cnf.clauses k []) l.bits
