@@ -1,19 +1,13 @@
 -- The value of a formula from those of its parts.
-use Rattle.std.proofs.Common.{◌≡◌, ℕ, ◌&&◌, ◌||◌, Bool, true, false, not, List, ap, sym, ◌∙◌, refl, subst, ◌⊎◌, inl, inr, Box}
-use Rattle.std.specs.declared.alloc.Global.{Global}
+use Rattle.std.proofs.Common.{◌≡◌, ℕ, ◌&&◌, ◌||◌, Bool, true, false, not, List, ap, sym, ◌∙◌, refl, subst}
 use Rattle.dai_model.specs.Formula as Model
 use Rattle.dai_model.specs.Formula.{Formulas, with_formula, no_formulas, negation, conjunction, disjunction, implication, equivalence}
 use Rattle.dai_model.specs.Protocol.{Protocol}
 use Rattle.dai_model.specs.Structure as Structures
 use Rattle.dai_model.specs.Value.{Environment, value_of, all_hold, some_holds, all_agree, agree, implies}
-use Rattle.dai_logic.specs.declared.protocol.Formula.{Formula, Same, Less, LessEq, Forall, Exists}
-use Rattle.dai_logic.specs.declared.protocol.Term.{Term}
-use Rattle.dai_logic.specs.declared.structure.Structure.{Structure}
-use Rattle.dai_logic.specs.Trees.{formula_of, term_of}
-use Rattle.dai_logic.specs.Tables.{IsFlags, IsEvaluable, AreEvaluable}
+use Rattle.dai_logic.specs.Tables.{IsEvaluable, AreEvaluable}
 use Rattle.dai_logic.specs.Environments.{EnvironmentTables, environment_of}
 use Rattle.dai_logic.proofs.Evaluable.{first_evaluable}
-use Rattle.dai_logic.proofs.NoTypes.{no_same, no_less, no_less_or_same, no_universal, no_existential}
 
 -- a value in an environment that is the old one
 pub value_then : (S : Structures.Structure) (now old : EnvironmentTables) (f : Model.Formula) (b : Bool) → now ≡ old → b ≡ value_of S (environment_of now) f → b ≡ value_of S (environment_of old) f
@@ -68,11 +62,3 @@ false_left S env f g h b e f' v = ap not f' ∙ (ap (λ a. implies a (value_of S
 
 pub true_left : (S : Structures.Structure) (env : Environment) (f g h : Model.Formula) (a b : Bool) → f ≡ implication g h → a ≡ true → a ≡ value_of S env g → b ≡ value_of S env h → b ≡ value_of S env f
 true_left S env f g h a b e t v w = w ∙ (ap (λ c. implies c (value_of S env h)) (sym t ∙ v) ∙ sym (ap (value_of S env) e))
-
--- where no type is declared no formula has a term or a quantifier
-pub no_typed_formula : (P : Protocol) (s : Structure) (env : Environment) (f : Formula) → IsFlags P s → IsEvaluable P s.sizes.items env (formula_of f) → ((x : Term) × (y : Term) × (f ≡ Same x y)) ⊎ (((x : Term) × (y : Term) × (f ≡ Less x y)) ⊎ (((x : Term) × (y : Term) × (f ≡ LessEq x y)) ⊎ (((v : ℕ) × (t : ℕ) × (b : Box Formula Global) × (f ≡ Forall v t b)) ⊎ ((v : ℕ) × (t : ℕ) × (b : Box Formula Global) × (f ≡ Exists v t b))))) → ⊥
-no_typed_formula P s env f flags h (inl w) = no_same P s env (formula_of f) (term_of w.0) (term_of w.1) (ap formula_of w.2) flags h
-no_typed_formula P s env f flags h (inr (inl w)) = no_less P s env (formula_of f) (term_of w.0) (term_of w.1) (ap formula_of w.2) flags h
-no_typed_formula P s env f flags h (inr (inr (inl w))) = no_less_or_same P s env (formula_of f) (term_of w.0) (term_of w.1) (ap formula_of w.2) flags h
-no_typed_formula P s env f flags h (inr (inr (inr (inl w)))) = no_universal P s env (formula_of f) w.0 w.1 (formula_of w.2.value) (ap formula_of w.3) flags h
-no_typed_formula P s env f flags h (inr (inr (inr (inr w)))) = no_existential P s env (formula_of f) w.0 w.1 (formula_of w.2.value) (ap formula_of w.3) flags h

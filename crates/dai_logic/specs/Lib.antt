@@ -1,5 +1,9 @@
 pub mod Trees
+pub mod Parts
 pub mod Protocols
+pub mod Counts
+pub mod Strides
 pub mod Tables
 pub mod Environments
 pub mod Execution
+pub mod Sample

@@ -1,4 +1,6 @@
 //! Protocols as trees. Types, relations, individuals, actions and variables are numbers.
+ghost use Rattle.dai_logic.specs.Parts.{AreAccepted};
+
 use dai_base::Text;
 
 /// A term: a variable, an individual, a parameter or a local, by its number.
@@ -114,7 +116,7 @@ pub struct Invariant {
 }
 
 /// A protocol: its declarations in the order of the file. `actions` are the exported ones; axioms and
-/// invariants are closed.
+/// invariants are closed. Every protocol is well-sorted and in the profile.
 #[derive(Drop)]
 pub struct Protocol {
     pub sorts: Vec<SortInfo>,
@@ -124,4 +126,5 @@ pub struct Protocol {
     pub init: Block,
     pub actions: Vec<Action>,
     pub invariants: Vec<Invariant>,
+    pub ghost accepted: { ∥ AreAccepted sorts.items relations.items individuals.items axioms.items init actions.items invariants.items ∥₁ },
 }

@@ -1,4 +1,8 @@
 //! Structures as tables.
+ghost use Rattle.std.specs.Prelude.{◌≡◌, length, IfOk};
+
+use dai_base::Spent;
+use std::alloc::Global;
 
 /// A structure: a size for each type, a table of truth values for each relation, which lists the tuples in
 /// lexicographic order, and a value for each individual.

@@ -1,205 +1,353 @@
-ghost use Rattle.std.specs.Prelude.{◌≡◌, [], ◌∷◌, IfOk, true, false, not};
-ghost use Rattle.dai_model.specs.TwoFlags.{flag as flag_model, set_flag as set_model, two_flags as two_flags_model};
-ghost use Rattle.dai_model.specs.Formula.{negation, requirement, implication, equivalence, with_formula, no_formulas, with_statement, no_statements};
-ghost use Rattle.dai_logic.specs.Trees.{formula_of, formulas_of, statement_of, statements_of};
-ghost use Rattle.dai_logic.specs.Protocols.{protocol_of};
-ghost use Rattle.dai_model.specs.WellSorted.{IsWellSorted, closed_scope};
+ghost use Rattle.std.specs.Prelude.{◌≡◌, ◌<◌, [], ◌∷◌, length, map, IfOk};
+ghost use Rattle.dai_model.specs.Formula.{truth, relates, less, requirement, update_relation, update_individual, existential, universal, conditional, with_statement, no_statements};
+ghost use Rattle.dai_model.specs.Formula as Model;
+ghost use Rattle.dai_model.specs.Protocol as Protocols;
 ghost use Rattle.dai_logic.specs.declared.structure.Structure.{Structure};
-ghost use Rattle.dai_logic.specs.Tables.{IsFlags};
 ghost use Rattle.dai_logic.specs.Execution.{IsCall};
+ghost use Rattle.dai_logic.specs.Trees.{term_of, formula_of, statement_of, statements_of};
+ghost use Rattle.dai_logic.specs.Parts.{block_of, action_of, relation_of};
+ghost use Rattle.dai_logic.specs.Protocols.{protocol_of};
+ghost use Rattle.dai_logic.specs.Sample.{begin, connect, turn, go, ask, sample, IsSampleState};
 
 use crate::{
-    Action, Block, BlockId, Formula, Protocol, RelInfo, Step, Structure, copy, env, eval, exec,
+    Action, Block, BlockId, Formula, IndInfo, Layout, Protocol, RelInfo, SortInfo, Step, Structure,
+    Term, Workspace, env, exec, is_enabled,
 };
 use dai_base::{Spent, Text};
 use std::alloc::Global;
 use std::process::Abort;
 use std::test::Fail;
 
-fn flag(alloc: Global, rel: u8) -> Formula
-    ensures { formula_of result ≡ flag_model rel }
+fn related(alloc: Global, rel: u8, args: &[Term]) -> Result<Formula, Spent>
+    ensures { IfOk result (λ f. formula_of f ≡ relates rel (map term_of args.now)) }
 {
-    Formula::Rel {
+    Ok(Formula::Rel {
         rel,
-        args: Vec::new(alloc),
-    }
+        args: Vec::from_slice(alloc, args)?,
+    })
 }
 
-fn set(alloc: Global, rel: u8, value: bool) -> Step
-    ensures { statement_of result ≡ set_model rel value }
+fn set(alloc: Global, rel: u8, args: &[Term], body: Formula) -> Result<Step, Spent>
+    ensures { IfOk result (λ c. statement_of c ≡ update_relation rel (map term_of args.now) (formula_of body)) }
 {
-    Step::SetTable {
+    Ok(Step::SetTable {
         rel,
-        args: Vec::new(alloc),
-        body: Formula::Truth(value),
-    }
+        args: Vec::from_slice(alloc, args)?,
+        body,
+    })
 }
 
-fn lowered(alloc: Global, rel: u8) -> Result<Step, Spent>
-    ensures { IfOk result (λ c. statement_of c ≡ requirement (negation (flag_model rel))) }
+fn begin_block(alloc: Global) -> Result<Block, Spent>
+    ensures { IfOk result (λ b. block_of b ≡ begin) }
 {
-    let down = Formula::Not(Box::new(alloc, flag(alloc, rel))?);
-    Ok(Step::Require { body: down })
+    let first = set(alloc, 1, &[Term::Var(0)], Formula::Truth(true))?;
+    let second = set(
+        alloc,
+        0,
+        &[Term::Var(0), Term::Var(1)],
+        Formula::Truth(false),
+    )?;
+    Ok(Block {
+        params: Vec::new(alloc),
+        locals: Vec::new(alloc),
+        code: vec![in alloc; first, second]?,
+    })
 }
 
-/// Init lowers the first flag and raises the second. The action asks that the first is down, and swaps them.
-fn two_flags(alloc: Global) -> Result<Protocol, Spent>
-    ensures { IfOk result (λ p. protocol_of p ≡ record two_flags_model { invariants = [] }) }
+fn connect_block(alloc: Global) -> Result<Block, Spent>
+    ensures { IfOk result (λ b. block_of b ≡ connect) }
+{
+    let asked = Step::Require {
+        body: related(alloc, 1, &[Term::Par(1)])?,
+    };
+    let first = set(
+        alloc,
+        0,
+        &[Term::Par(0), Term::Par(1)],
+        Formula::Truth(true),
+    )?;
+    let second = set(alloc, 1, &[Term::Par(1)], Formula::Truth(false))?;
+    Ok(Block {
+        params: vec![in alloc; 0, 0]?,
+        locals: Vec::new(alloc),
+        code: vec![in alloc; asked, first, second]?,
+    })
+}
+
+fn turn_block(alloc: Global) -> Result<Block, Spent>
+    ensures { IfOk result (λ b. block_of b ≡ turn) }
+{
+    let body = related(alloc, 0, &[Term::Var(1), Term::Var(0)])?;
+    let only = set(alloc, 0, &[Term::Var(0), Term::Var(1)], body)?;
+    Ok(Block {
+        params: Vec::new(alloc),
+        locals: Vec::new(alloc),
+        code: vec![in alloc; only]?,
+    })
+}
+
+fn go_step(alloc: Global) -> Result<Step, Spent>
+    ensures { IfOk result (λ c. statement_of c ≡ conditional (less (Model.individual 0) (Model.parameter 0)) (with_statement (update_individual 0 (Model.parameter 0)) no_statements) (with_statement (update_individual 0 (Model.choice 0)) no_statements)) }
+{
+    let up = Step::SetValue {
+        ind: 0,
+        to: Term::Par(0),
+    };
+    let away = Step::SetValue {
+        ind: 0,
+        to: Term::Loc(0),
+    };
+    Ok(Step::Cond {
+        cond: Formula::Less {
+            left: Term::Ind(0),
+            right: Term::Par(0),
+        },
+        yes: vec![in alloc; up]?,
+        no: vec![in alloc; away]?,
+    })
+}
+
+fn go_block(alloc: Global) -> Result<Block, Spent>
+    ensures { IfOk result (λ b. block_of b ≡ go) }
+{
+    Ok(Block {
+        params: vec![in alloc; 0]?,
+        locals: vec![in alloc; 0]?,
+        code: vec![in alloc; go_step(alloc)?]?,
+    })
+}
+
+fn asked(alloc: Global) -> Result<Formula, Spent>
+    ensures { IfOk result (λ f. formula_of f ≡ existential 0 0 (universal 1 0 (relates 0 (Model.variable 0 ∷ Model.variable 1 ∷ [])))) }
+{
+    let body = related(alloc, 0, &[Term::Var(0), Term::Var(1)])?;
+    let all = Formula::Forall {
+        var: 1,
+        sort: 0,
+        body: Box::new(alloc, body)?,
+    };
+    Ok(Formula::Exists {
+        var: 0,
+        sort: 0,
+        body: Box::new(alloc, all)?,
+    })
+}
+
+fn ask_block(alloc: Global) -> Result<Block, Spent>
+    ensures { IfOk result (λ b. block_of b ≡ ask) }
+{
+    let only = Step::Require {
+        body: asked(alloc)?,
+    };
+    Ok(Block {
+        params: Vec::new(alloc),
+        locals: Vec::new(alloc),
+        code: vec![in alloc; only]?,
+    })
+}
+
+fn action(alloc: Global, name: &[u8], block: Block) -> Result<Action, Spent>
+    ensures { IfOk result (λ a. action_of a ≡ record { name = name.now; block = block_of block }) }
+{
+    Ok(Action {
+        name: Text::from_bytes(alloc, name)?,
+        block,
+    })
+}
+
+fn actions(alloc: Global) -> Result<Vec<Action>, Spent>
+    ensures { IfOk result (λ v. map action_of v.items ≡ sample.actions) }
+{
+    let first = action(alloc, b"connect", connect_block(alloc)?)?;
+    let second = action(alloc, b"turn", turn_block(alloc)?)?;
+    let third = action(alloc, b"go", go_block(alloc)?)?;
+    let fourth = action(alloc, b"ask", ask_block(alloc)?)?;
+    Ok(vec![in alloc; first, second, third, fourth]?)
+}
+
+fn relations(alloc: Global) -> Result<Vec<RelInfo>, Spent>
+    ensures { IfOk result (λ v. map relation_of v.items ≡ sample.relations) }
 {
     let first = RelInfo {
-        name: Text::from_bytes(alloc, b"a")?,
-        args: Vec::new(alloc),
+        name: Text::from_bytes(alloc, b"r")?,
+        args: vec![in alloc; 0, 0]?,
     };
     let second = RelInfo {
-        name: Text::from_bytes(alloc, b"b")?,
-        args: Vec::new(alloc),
+        name: Text::from_bytes(alloc, b"u")?,
+        args: vec![in alloc; 0]?,
     };
-    let init = Block {
-        params: Vec::new(alloc),
-        locals: Vec::new(alloc),
-        code: vec![in alloc; set(alloc, 0, false), set(alloc, 1, true)]?,
-    };
-    let swap = Block {
-        params: Vec::new(alloc),
-        locals: Vec::new(alloc),
-        code: vec![in alloc;
-            lowered(alloc, 0)?,
-            set(alloc, 0, true),
-            set(alloc, 1, false),
-        ]?,
-    };
-    let action = Action {
+    Ok(vec![in alloc; first, second]?)
+}
+
+/// The protocol of the example.
+fn protocol(alloc: Global) -> Result<Protocol, Spent>
+    ensures { IfOk result (λ p. protocol_of p ≡ sample) }
+{
+    let only = SortInfo {
         name: Text::from_bytes(alloc, b"t")?,
-        block: swap,
+        ordered: true,
     };
+    let named = IndInfo {
+        name: Text::from_bytes(alloc, b"c")?,
+        sort: 0,
+    };
+    let sorts = vec![in alloc; only]?;
+    let relations = relations(alloc)?;
+    let individuals = vec![in alloc; named]?;
+    let init = begin_block(alloc)?;
+    let actions = actions(alloc)?;
     Ok(Protocol {
-        sorts: Vec::new(alloc),
-        relations: vec![in alloc; first, second]?,
-        individuals: Vec::new(alloc),
+        sorts,
+        relations,
+        individuals,
         axioms: Vec::new(alloc),
         init,
-        actions: vec![in alloc; action]?,
+        actions,
         invariants: Vec::new(alloc),
     })
 }
 
-fn state(alloc: Global, first: bool, second: bool) -> Result<Structure, Spent>
-    ensures { IfOk result (λ s. IsFlags (record two_flags_model { invariants = [] }) s) }
+/// Two elements, whether each pair is related, whether each is free, and the individual.
+fn state(alloc: Global, r: &[bool], u: &[bool], c: u16) -> Result<Structure, Spent>
+    requires pairs { length r.now ≡ 4 }
+    requires elements { length u.now ≡ 2 }
+    requires element { c < 2 }
+    ensures { IfOk result IsSampleState }
 {
+    let first = Vec::from_slice(alloc, r)?;
+    let second = Vec::from_slice(alloc, u)?;
     Ok(Structure {
-        sizes: Vec::new(alloc),
-        tables: vec![in alloc; vec![in alloc; first]?, vec![in alloc; second]?]?,
-        values: Vec::new(alloc),
+        sizes: vec![in alloc; 2]?,
+        tables: vec![in alloc; first, second]?,
+        values: vec![in alloc; c]?,
     })
 }
 
-fn flags_in(s: &Structure) -> Option<(bool, bool)> {
-    Some((*s.tables.first()?.first()?, *s.tables.get(1)?.first()?))
+/// A state: whether each pair is related, whether each element is free, and the individual.
+#[derive(Clone, Copy)]
+struct Row {
+    r: [bool; 4],
+    u: [bool; 2],
+    c: u16,
 }
 
-/// Checks what the block leaves of two flags.
+fn is_row(s: &Structure, want: Row) -> bool {
+    let (Some(r), Some(u), Some(c)) = (s.tables.first(), s.tables.get(1), s.values.first()) else {
+        return false;
+    };
+    r.as_slice() == want.r.as_slice() && u.as_slice() == want.u.as_slice() && *c == want.c
+}
+
+/// Checks what the block leaves, and that its enabledness is the same.
 fn leaves(
     rt: &(impl Abort + AllocGlobal),
-    protocol: &Protocol,
     block: BlockId,
-    flags: (bool, bool),
-    want: Option<(bool, bool)>,
+    args: &[u16],
+    choices: &[u16],
+    before: Row,
+    want: Option<Row>,
 ) -> Result<(), Fail>
-    requires protocol { protocol_of protocol.now ≡ record two_flags_model { invariants = [] } }
-    requires call { (s : Structure) → IsCall (record two_flags_model { invariants = [] }) block s [] [] }
+    requires element { before.c < 2 }
+    requires call { (P : Protocols.Protocol) (s : Structure) → P ≡ sample → s.sizes.items ≡ 2 ∷ [] → IsCall P block s args.now choices.now }
 {
-    let before = state(rt.alloc(), flags.0, flags.1)?;
-    let after = exec(rt.alloc(), protocol, block, &before, &[], &[])?;
+    let protocol = protocol(rt.alloc())?;
+    let s = state(
+        rt.alloc(),
+        before.r.as_slice(),
+        before.u.as_slice(),
+        before.c,
+    )?;
+    let after = exec(rt.alloc(), &protocol, block, &s, args, choices)?;
     assert_eq!(rt; after.is_some(), want.is_some());
-    if let Some(left) = &after {
-        assert_eq!(rt; flags_in(left), want);
+    if let (Some(after), Some(want)) = (&after, want) {
+        assert!(rt; is_row(after, want));
     }
+    let mut env = env(rt.alloc(), args, choices)?;
+    let mut work = Workspace::new(rt.alloc(), &s)?;
+    let enabled = is_enabled(&protocol, block, &s, &mut env, &mut work);
+    assert_eq!(rt; enabled, want.is_some());
     Ok(())
 }
 
 #[test]
-fn executes_two_flags(rt: HostRuntime) -> Result<(), Fail> {
-    let protocol = two_flags(rt.alloc())?;
+fn executes_blocks(rt: HostRuntime) -> Result<(), Fail> {
+    let none = [false; 4];
+    let free = [true; 2];
+    let row = Row {
+        r: none,
+        u: free,
+        c: 0,
+    };
+    let taken = Row {
+        r: [false, true, false, false],
+        u: [true, false],
+        c: 0,
+    };
     leaves(
         &rt,
-        &protocol,
         BlockId::Init,
-        (true, true),
-        Some((false, true)),
+        &[],
+        &[],
+        Row {
+            r: [true; 4],
+            u: [false; 2],
+            c: 1,
+        },
+        Some(Row { c: 1, ..row }),
+    )?;
+    leaves(&rt, BlockId::Act(0), &[0, 1], &[], row, Some(taken))?;
+    leaves(&rt, BlockId::Act(0), &[1, 1], &[], taken, None)?;
+    let turned = [false, false, true, false];
+    leaves(
+        &rt,
+        BlockId::Act(1),
+        &[],
+        &[],
+        taken,
+        Some(Row { r: turned, ..taken }),
     )?;
     leaves(
         &rt,
-        &protocol,
-        BlockId::Act(0),
-        (false, true),
-        Some((true, false)),
+        BlockId::Act(2),
+        &[1],
+        &[0],
+        row,
+        Some(Row { c: 1, ..row }),
     )?;
-    leaves(&rt, &protocol, BlockId::Act(0), (true, false), None)
+    leaves(
+        &rt,
+        BlockId::Act(2),
+        &[1],
+        &[0],
+        Row { c: 1, ..row },
+        Some(row),
+    )?;
+    let all = Row {
+        r: [false, false, true, true],
+        ..row
+    };
+    leaves(&rt, BlockId::Act(3), &[], &[], all, Some(all))?;
+    leaves(
+        &rt,
+        BlockId::Act(3),
+        &[],
+        &[],
+        Row {
+            r: [true, false, false, true],
+            ..row
+        },
+        None,
+    )
 }
 
 #[test]
-fn copies(rt: HostRuntime) -> Result<(), Fail> {
-    let before = state(rt.alloc(), true, false)?;
-    let after = copy(rt.alloc(), &before)?;
-    assert_eq!(rt; flags_in(&after), Some((true, false)));
+fn numbers_tuples(rt: HostRuntime) -> Result<(), Fail> {
+    let protocol = protocol(rt.alloc())?;
+    let layout = Layout::of(rt.alloc(), &protocol, &[2])?;
+    assert_eq!(rt; layout.count(0), 4);
+    assert_eq!(rt; layout.place(0, &[1, 0]), 2);
+    let mut tuple = [0, 1];
+    layout.read(0, 2, &mut tuple);
+    assert_eq!(rt; tuple, [1, 0]);
     Ok(())
-}
-
-/// The first flag, the second and the first again.
-fn parts(alloc: Global) -> Result<Vec<Formula>, Spent>
-    ensures { IfOk result (λ v. formulas_of v.items ≡ with_formula (flag_model 0) (with_formula (flag_model 1) (with_formula (flag_model 0) no_formulas))) }
-{
-    Ok(vec![in alloc; flag(alloc, 0), flag(alloc, 1), flag(alloc, 0)]?)
-}
-
-fn implied(alloc: Global) -> Result<Formula, Spent>
-    ensures { IfOk result (λ f. formula_of f ≡ implication (flag_model 0) (flag_model 1)) }
-{
-    let first = Box::new(alloc, flag(alloc, 0))?;
-    Ok(Formula::Implies(first, Box::new(alloc, flag(alloc, 1))?))
-}
-
-/// Checks the value of a closed formula where the flags are these.
-fn evaluates(
-    rt: &(impl Abort + AllocGlobal),
-    protocol: &Protocol,
-    flags: (bool, bool),
-    formula: &Formula,
-    want: bool,
-) -> Result<(), Fail>
-    requires protocol { protocol_of protocol.now ≡ record two_flags_model { invariants = [] } }
-    requires formula { IsWellSorted (record two_flags_model { invariants = [] }) closed_scope (formula_of formula.now) }
-{
-    let s = state(rt.alloc(), flags.0, flags.1)?;
-    let mut env = env(rt.alloc(), &[], &[])?;
-    assert_eq!(rt; eval(protocol, formula, &s, &mut env), want);
-    Ok(())
-}
-
-/// Checks `a -> b`, `a <-> b <-> a`, `a & b & a` and `a | b | a` where the flags are these.
-fn evaluates_parts(
-    rt: &(impl Abort + AllocGlobal),
-    protocol: &Protocol,
-    flags: (bool, bool),
-    want: (bool, bool, bool, bool),
-) -> Result<(), Fail>
-    requires protocol { protocol_of protocol.now ≡ record two_flags_model { invariants = [] } }
-{
-    let implied = implied(rt.alloc())?;
-    evaluates(rt, protocol, flags, &implied, want.0)?;
-    let chain = Formula::Iff(parts(rt.alloc())?);
-    evaluates(rt, protocol, flags, &chain, want.1)?;
-    let all = Formula::All(parts(rt.alloc())?);
-    evaluates(rt, protocol, flags, &all, want.2)?;
-    let any = Formula::Any(parts(rt.alloc())?);
-    evaluates(rt, protocol, flags, &any, want.3)
-}
-
-#[test]
-fn evaluates_formulas(rt: HostRuntime) -> Result<(), Fail> {
-    let p = two_flags(rt.alloc())?;
-    evaluates_parts(&rt, &p, (false, false), (true, false, false, false))?;
-    evaluates_parts(&rt, &p, (false, true), (true, true, false, true))?;
-    evaluates_parts(&rt, &p, (true, false), (false, false, false, true))?;
-    evaluates_parts(&rt, &p, (true, true), (true, true, true, true))
 }

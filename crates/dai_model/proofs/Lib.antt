@@ -4,3 +4,4 @@ pub mod Typed
 pub mod Induction
 pub mod Below
 pub mod Flags
+pub mod OneProof

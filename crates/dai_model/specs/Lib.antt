@@ -5,6 +5,7 @@ pub mod Value
 pub mod Execution
 pub mod Reachable
 pub mod WellSorted
+pub mod Profile
 pub mod Placement
 pub mod Clause
 pub mod Template

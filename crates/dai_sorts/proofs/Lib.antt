@@ -10,3 +10,6 @@ pub mod Exits
 pub mod Meaning
 pub mod NewNames
 pub mod Mentions
+pub mod Plain
+pub mod Exported
+pub mod InProfile

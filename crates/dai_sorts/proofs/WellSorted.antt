@@ -175,7 +175,7 @@ spares_axioms ds P block ts axioms directs = λ s k d below named.
     not_true (some_assigns s block.code) (λ assigned. fixed_and_free ds P s k d axioms below named (code_free (file_vocabulary ds) s ts block.code directs assigned))
 
 -- the parts of the protocol
-All-right : {X Y : Type 0} (R : X → Y → Type 0) (Q : Y → Type 0) (xs : List X) (ys : List Y) → ((x : X) (y : Y) → R x y → Q y) → AllZip R xs ys → All Q ys
+pub All-right : {X Y : Type 0} (R : X → Y → Type 0) (Q : Y → Type 0) (xs : List X) (ys : List Y) → ((x : X) (y : Y) → R x y → Q y) → AllZip R xs ys → All Q ys
 All-right R Q [] [] f h = All-nil Q
 All-right R Q [] (y ∷ ys) f h = absurd h
 All-right R Q (x ∷ xs) [] f h = absurd h

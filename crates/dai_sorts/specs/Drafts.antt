@@ -31,6 +31,12 @@ pub record IsDraft (v : Vocabulary) (ds : List Declaration) (d : Draft) : Type 0
   pub declarations : AreFlagDeclarations v ds
   pub parts : AreParts v ds (drafted d)
 
+-- the names and the draft of a whole file
+pub record AreRead (names : Names) (draft : Draft) : Type 0 where
+  pub declarations : List Declaration
+  pub known : IsVocabulary declarations names
+  pub read : IsDraft (vocabulary_of names) declarations draft
+
 -- one more declaration was read
 abbrev pub Adds : Vocabulary → Declaration → Draft → Draft → Type 0
 Adds v declaration old new = (ds : List Declaration) → IsDraft v ds old → IsDraft v (ds ++ declaration ∷ []) new

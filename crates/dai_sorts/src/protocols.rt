@@ -4,7 +4,7 @@ ghost use Rattle.dai_syntax.specs.Tree.{Declaration};
 ghost use Rattle.dai_logic.specs.Protocols.{relation_of, protocol_of};
 ghost use Rattle.dai_sorts.specs.Numbers.{flag_names, vocabulary_of};
 ghost use Rattle.dai_sorts.specs.Files.{flag, IsProtocolOf};
-ghost use Rattle.dai_sorts.specs.Drafts.{IsDraft};
+ghost use Rattle.dai_sorts.specs.Drafts.{IsDraft, AreRead};
 
 use crate::draft::Draft;
 use crate::error::SortError;
@@ -13,8 +13,9 @@ use dai_base::Text;
 use dai_logic::{Block, Protocol, RelInfo};
 use std::alloc::Global;
 
-/// The protocol of what was read, with the relations of the names.
+/// The protocol of what was read of a file, with the relations of the names.
 pub fn protocol(alloc: Global, names: &Names, draft: Draft) -> Result<Protocol, SortError>
+    requires { AreRead names.now draft }
     ensures made { IfOk result (λ p. (ds : List Declaration) → IsDraft (vocabulary_of names.now) ds draft → IsProtocolOf (vocabulary_of names.now) ds (protocol_of p)) }
     ensures spent { IfErr result (λ e. e ≡ SortError.Spent) }
 {

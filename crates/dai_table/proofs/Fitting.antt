@@ -1,14 +1,15 @@
 -- A state is a structure of its protocol, a block of it may be executed there, and a closed formula has a value.
-use Rattle.std.proofs.Common.{◌≡◌, ◌<◌, ◌≤◌, ℕ, zero, suc, Bool, true, false, List, [], ◌∷◌, length, get_or, map, Option, Some, None, sym, ◌∙◌, ap, subst, refl, arith}
-use Rattle.std.specs.Prelude.{slice_get, slice_index, slice_index_or, IsTrue}
+use Rattle.std.proofs.Common.{◌≡◌, ◌<◌, ℕ, zero, suc, Bool, List, [], ◌∷◌, length, get_or, map, Some, Vec, sym, ◌∙◌, ap, subst, refl, arith}
+use Rattle.std.specs.Prelude.{slice_get, IsTrue}
 use Rattle.std.specs.Option.{option_map}
+use Rattle.std.specs.declared.alloc.Global.{Global}
 use Rattle.std.specs.List.{All}
 use Rattle.std.proofs.lemmas.List.{length-map, get_or-map}
 use Rattle.dai_model.specs.Protocol.{Protocol, Relation, Individual, Block, Action}
 use Rattle.dai_model.specs.Structure.{is_tuple}
 use Rattle.dai_model.specs.Formula.{Formula}
-use Rattle.dai_model.specs.Value.{Environment, environment_of}
-use Rattle.dai_model.specs.WellSorted.{IsProtocol, IsWellSortedBlock, IsWellSorted, EnvironmentFits, closed_scope}
+use Rattle.dai_model.specs.Value.{Environment}
+use Rattle.dai_model.specs.WellSorted.{IsProtocol, IsWellSortedBlock, IsWellSorted, closed_scope}
 use Rattle.dai_model.proofs.Typed.{slice_get-length}
 use Rattle.dai_logic.specs.declared.structure.Structure.{Structure}
 use Rattle.dai_logic.specs.declared.structure.BlockId.{BlockId}
@@ -16,9 +17,9 @@ use Rattle.dai_logic.specs.declared.structure.BlockId.TheVariants.{Init, Act}
 use Rattle.dai_logic.specs.declared.protocol.Formula.{Formula as Form}
 use Rattle.dai_logic.specs.Trees.{formula_of}
 use Rattle.dai_logic.specs.Protocols.{block_named}
-use Rattle.dai_logic.specs.Tables.{tables_of, tuple_count, Fits, IsFlags, IsEvaluable}
+use Rattle.dai_logic.specs.Tables.{tuple_count, IsEvaluable}
 use Rattle.dai_logic.specs.Execution.{IsCall}
-use Rattle.dai_table.specs.Flags.{IsTableOf, IsStateOf}
+use Rattle.dai_table.specs.Flags.{IsFlags, IsTableOf, IsStateOf}
 
 -- a list of types where there is none is empty
 no_sorts : (n : ℕ) (sorts : List ℕ) → n ≡ 0 → All (λ sort. sort < n) sorts → sorts ≡ []
@@ -34,20 +35,19 @@ slice_get-get_or [] i x d h = absurd (let e : ⊥ = cc in e)
 slice_get-get_or (y ∷ ys) zero x d h = cc
 slice_get-get_or (y ∷ ys) (suc i) x d h = slice_get-get_or ys i x d h
 
-pub state_fits : (P : Protocol) (s : Structure) (flags : ℕ) → IsTableOf P → IsStateOf flags s → flags ≡ length P.relations → IsFlags P s
-state_fits P s flags table state count =
+pub state_fits : (P : Protocol) (s : Structure) (flags : ℕ) → IsProtocol P → IsTableOf P → IsStateOf flags s → flags ≡ length P.relations → IsFlags P s
+state_fits P s flags protocol table state count =
     let none : length P.sorts ≡ 0 = ap length table.no_types in
-    let individuals = no_individuals (length P.sorts) P.individuals none table.protocol.individuals in
+    let individuals = no_individuals (length P.sorts) P.individuals none protocol.individuals in
     record {
       no_types = table.no_types;
-      protocol = table.protocol;
       structure = record {
         one_size_each = (let e : length s.sizes.items ≡ 0 = ap length state.no_sizes in e ∙ sym none);
         inhabited = λ k d h. absurd (let e : length s.sizes.items ≡ 0 = ap length state.no_sizes in omega (arith, e));
-        one_table_each = state.one_table_each ∙ count;
+        one_table_each = length-map s.tables.items (λ (t : Vec Bool Global). t.items) ∙ (state.one_table_each ∙ count);
         whole_tables = λ r R h.
             let below = slice_get-length P.relations r R h in
-            let sorts = table.protocol.relations r R below in
+            let sorts = protocol.relations r R below in
             let same = slice_get-get_or P.relations r R R h in
             let arguments = no_sorts (length P.sorts) R.arguments none (subst (λ (Q : Relation). All (λ sort. sort < length P.sorts) Q.arguments) same sorts) in
             let one = state.one_value_each r [] (rw length-map (let e = state.one_table_each in omega (arith, e, count, below))) in
@@ -70,30 +70,34 @@ call_of P block s called no_types sorted named =
       chosen = subst (λ sorts. IsTrue (is_tuple s.sizes.items sorts [])) (sym choices) refl;
     }
 
-pub init_call : (P : Protocol) (s : Structure) → IsFlags P s → IsCall P Init s [] []
-init_call P s flags = call_of P Init s P.init flags.no_types flags.protocol.init refl
+pub init_call : (P : Protocol) (s : Structure) → IsProtocol P → IsFlags P s → IsCall P Init s [] []
+init_call P s protocol flags = call_of P Init s P.init flags.no_types protocol.init refl
 
 slice_get-below : {A : Type 0} (xs : List A) (i : ℕ) (d : A) → i < length xs → slice_get xs i ≡ Some (get_or xs i d)
 slice_get-below [] i d h = absurd (omega arith)
 slice_get-below (x ∷ xs) zero d h = refl
 slice_get-below (x ∷ xs) (suc i) d h = slice_get-below xs i d (omega arith)
 
-pub action_call : (P : Protocol) (s : Structure) (a : ℕ) → IsFlags P s → a < length P.actions → IsCall P (Act a) s [] []
-action_call P s a flags below =
+pub action_call : (P : Protocol) (s : Structure) (a : ℕ) → IsProtocol P → IsFlags P s → a < length P.actions → IsCall P (Act a) s [] []
+action_call P s a protocol flags below =
     let d : Action = record { name = []; block = P.init } in
     let found = slice_get-below P.actions a d below in
     let named : block_named P (Act a) ≡ Some (get_or P.actions a d).block = ap (option_map (λ (b : Action). b.block)) found in
-    call_of P (Act a) s (get_or P.actions a d).block flags.no_types (flags.protocol.actions a d below) named
+    call_of P (Act a) s (get_or P.actions a d).block flags.no_types (protocol.actions a d below) named
 
 -- a closed formula needs no environment
 pub closed_evaluable : (P : Protocol) (sizes : List ℕ) (env : Environment) (f : Formula) → IsWellSorted P closed_scope f → IsEvaluable P sizes env f
 closed_evaluable P sizes env f sorted = record {
   scope = closed_scope;
   sorted = sorted;
-  fits = record {
-    variables = λ v sort h. absurd (let e : ⊥ = cc in e);
-    parameters = λ p sort h. absurd (let e : ⊥ = cc in e);
-    choices = λ c sort h. absurd (let e : ⊥ = cc in e);
+  gives = record {
+    fits = record {
+      variables = λ v sort h. absurd (let e : ⊥ = cc in e);
+      parameters = λ p sort h. absurd (let e : ⊥ = cc in e);
+      choices = λ c sort h. absurd (let e : ⊥ = cc in e);
+    };
+    parameters = omega arith;
+    choices = omega arith;
   };
 }
 

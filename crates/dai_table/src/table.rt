@@ -1,11 +1,10 @@
 //! The table: which states are initial, and which steps there are.
 ghost use Rattle.std.specs.Prelude.{◌≡◌, ◌≤◌, ◌<◌, ◌^◌, [], length, map, vec_len, IfOk};
 ghost use Rattle.std.specs.List.{All};
-ghost use Rattle.dai_model.specs.WellSorted.{IsProtocol, IsWellSorted, closed_scope};
+ghost use Rattle.dai_model.specs.WellSorted.{IsWellSorted, closed_scope};
 ghost use Rattle.dai_logic.specs.Protocols.{protocol_of};
 ghost use Rattle.dai_logic.specs.Trees.{formula_of};
-ghost use Rattle.dai_logic.specs.Tables.{IsFlags};
-ghost use Rattle.dai_table.specs.Flags.{IsTableOf, IsStateOf};
+ghost use Rattle.dai_table.specs.Flags.{IsFlags, IsTableOf, IsStateOf};
 
 use crate::states::StateSet;
 use dai_base::Spent;

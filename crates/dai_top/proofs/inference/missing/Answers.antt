@@ -1,6 +1,7 @@
 use Rattle.std.proofs.Common.{◌≡◌, ◌<◌, List, length, get_or, subst}
 use Rattle.dai_logic.specs.declared.protocol.Invariant.{Invariant}
 use Rattle.dai_logic.specs.Protocols.{protocol_of}
+use Rattle.dai_logic.proofs.Accepted.{is_protocol}
 use Rattle.dai_top.proofs.Closed.{closed_invariant}
 use Rattle.dai_top.proofs.inference.missing.Goals as goal
 
@@ -9,4 +10,4 @@ entails-requires-clause-closed c =
     let same = c.deref-invariant-items.ensures.value in
     let below = subst (λ (fs : List Invariant). c.loop-invariant.invariant-index < length fs) same c.loop-invariant-test.true in
     let item = subst (λ (fs : List Invariant). c.invariant-item.result ≡ get_or fs c.loop-invariant.invariant-index c.invariant-item.result) same c.invariant-item.is in
-    closed_invariant (protocol_of c.args.protocol.now) c.args.protocol.now.invariants.items c.loop-invariant.invariant-index c.invariant-item.result c.invariant-item.result c.requires.protocol.invariants below item
+    closed_invariant (protocol_of c.args.protocol.now) c.args.protocol.now.invariants.items c.loop-invariant.invariant-index c.invariant-item.result c.invariant-item.result (is_protocol c.args.protocol.now).invariants below item

@@ -1,7 +1,0 @@
-use Rattle.std.proofs.Common.{◌≡◌, Bool, map, take, Vec}
-use Rattle.std.specs.declared.alloc.Global.{Global}
-use Rattle.dai_logic.proofs.execution.copy.Given as goal
-
--- the tables so far are those of the structure
-abbrev pub invariant-loop-table : goal.invariant-loop-table
-invariant-loop-table l = map (λ (t : Vec Bool Global). t.items) l.tables.items ≡ take l.table-index (map (λ (t : Vec Bool Global). t.items) l.s.tables.items)
