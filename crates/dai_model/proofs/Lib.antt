@@ -5,3 +5,8 @@ pub mod Induction
 pub mod Below
 pub mod Flags
 pub mod OneProof
+pub mod Folds
+pub mod Tuples
+pub mod Order
+pub mod Triples
+pub mod Within

@@ -9,8 +9,12 @@ pub mod Profile
 pub mod Placement
 pub mod Clause
 pub mod Template
+pub mod Sizes
+pub mod Limits
+pub mod Shapes
 pub mod Subsumption
 pub mod Inductive
 pub mod Answer
 pub mod Report
 pub mod TwoFlags
+pub mod Triples

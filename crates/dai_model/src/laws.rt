@@ -1,5 +1,7 @@
 //! Laws of the definitions, over every protocol.
-ghost use Rattle.std.specs.Prelude.{◌≡◌, ℕ, ◌<◌, ◌↔◌, ◌++◌, Bool, List, IsTrue};
+ghost use Rattle.std.specs.Prelude.{◌≡◌, ℕ, ◌<◌, ◌↔◌, ◌++◌, Bool, List, IsTrue, length, slice_index, slice_index_or, ◌≤◌};
+ghost use Rattle.std.specs.List.{Contains};
+ghost use Rattle.std.specs.declared.cmp.Ordering.TheVariants.{Less};
 ghost use Rattle.dai_model.specs.Protocol.{Protocol};
 ghost use Rattle.dai_model.specs.Structure.{Structure};
 ghost use Rattle.dai_model.specs.Value.{every, some};
@@ -7,6 +9,7 @@ ghost use Rattle.dai_model.specs.WellSorted.{IsProtocol};
 ghost use Rattle.dai_model.specs.Reachable.{IsReachable};
 ghost use Rattle.dai_model.specs.Clause.{Clause, Meets};
 ghost use Rattle.dai_model.specs.Template.{Bounds, IsTemplate};
+ghost use Rattle.dai_model.specs.Shapes.{shapes_within, compare_shapes};
 ghost use Rattle.dai_model.specs.Subsumption.{Subsumes};
 ghost use Rattle.dai_model.specs.Inductive.{IsInductive, IsInductiveUpTo, IsInGreatest};
 
@@ -44,4 +47,14 @@ pub fn below_is_reflexive()
 /// What is below a clause below another one is below that one.
 pub fn below_is_transitive()
     ensures { (P : Protocol) (B : Bounds) (a b c : Clause) → IsTemplate P B a → Subsumes P a b → Subsumes P b c → Subsumes P a c }
+{}
+
+/// The shapes within bounds stand in print order, each once.
+pub fn shapes_stand_in_print_order()
+    ensures { (bounds : List ℕ) (i j : ℕ) (d : List ℕ) → i < j → j < length (shapes_within bounds) → compare_shapes (slice_index_or (shapes_within bounds) i d) (slice_index_or (shapes_within bounds) j d) ≡ Less }
+{}
+
+/// Every way to give each type a number of variables up to its bound is one of the shapes.
+pub fn every_shape_is_listed()
+    ensures { (bounds counts : List ℕ) → length counts ≡ length bounds → ((sort : ℕ) → slice_index counts sort ≤ slice_index bounds sort) → Contains (shapes_within bounds) counts }
 {}

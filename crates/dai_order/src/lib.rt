@@ -7,4 +7,4 @@ mod subsumption;
 mod tests;
 
 pub use antichain::Antichain;
-pub use subsumption::{compare, subsumes};
+pub use subsumption::subsumes;

@@ -1,8 +1,7 @@
 use crate::antichain::Antichain;
-use crate::subsumption::{compare, subsumes};
+use crate::subsumption::subsumes;
 use dai_template::{Clause, Space};
 use std::alloc::Global;
-use std::cmp::Ordering;
 use std::test::Fail;
 
 /// A clause of these literals, at most two.
@@ -23,21 +22,20 @@ fn no_space(alloc: Global) -> Space {
 }
 
 #[test]
-fn below_and_before(rt: HostRuntime) {
+fn below(rt: HostRuntime) {
     let space = no_space(rt.alloc());
     let all: [&[u8]; 5] = [&[], &[1], &[0, 2], &[1, 2], &[1, 3]];
-    for (left, right, below, order) in [
-        (0, 1, true, Ordering::Less),
-        (1, 3, true, Ordering::Less),
-        (1, 2, false, Ordering::Less),
-        (3, 1, false, Ordering::Greater),
-        (3, 4, false, Ordering::Less),
-        (4, 4, true, Ordering::Equal),
+    for (left, right, below) in [
+        (0, 1, true),
+        (1, 3, true),
+        (1, 2, false),
+        (3, 1, false),
+        (3, 4, false),
+        (4, 4, true),
     ] {
         if left < 5 && right < 5 {
             let (a, b) = (clause(all[left]), clause(all[right]));
             assert_eq!(rt; subsumes(&space, &a, &b), below, "{left} {right}");
-            assert!(rt; compare(&space, &a, &b) == order, "{left} {right}");
         }
     }
 }

@@ -2,6 +2,9 @@
 #![tactic(auto)]
 
 mod clauses;
+mod guards;
+mod joining;
+mod names;
 mod report;
 
 pub use clauses::clause_text;

@@ -1,11 +1,15 @@
 //! Shapes, atoms and clauses, and the list of all clauses within the bounds.
 #![tactic(auto)]
 
+mod atoms;
 mod clause;
+mod counting;
 mod listing;
+mod shapes;
 mod space;
 #[cfg(test)]
 mod tests;
+mod tuples;
 
 pub use clause::{Atom, Clause, Shape};
 pub use space::{Space, SpaceError};

@@ -7,19 +7,6 @@ use crate::space::Space;
 use dai_base::Spent;
 use std::alloc::Global;
 
-/// How many clauses with at most so many literals there are over so many atoms: for each number k of literals
-/// the choices of k atoms, each with two signs.
-pub fn count(atoms: usize, lits: u8) -> u128 {
-    let mut total: u128 = 0;
-    let mut with_k: u128 = 1;
-    for k in 0..usize::from(lits) + 1 {
-        total = total.saturating_add(with_k);
-        let left = (atoms.saturating_sub(k)) as u128;
-        with_k = with_k.saturating_mul(2 * left) / (k as u128 + 1);
-    }
-    total
-}
-
 impl Space {
     /// All clauses of the space, each once, in print order.
     pub fn all(&self, alloc: Global) -> Result<Vec<Clause>, Spent> {

@@ -1,11 +1,13 @@
 //! The template space of a protocol.
-ghost use Rattle.std.specs.Prelude.{◌≡◌, ◌≤◌, length};
+ghost use Rattle.std.specs.Prelude.{◌≡◌, ◌≤◌, ◌<◌, length};
 
-use crate::clause::{Atom, Shape};
-use crate::listing::count;
+use crate::clause::{Atom, Clause, Shape};
+use crate::counting::{atom_count, template_count};
+use crate::shapes::{counts_within, in_print_order, sum_of};
 use dai_base::Spent;
 use dai_logic::Protocol;
 use std::alloc::{AllocError, AllocFailed, Global};
+use std::cmp::Ordering;
 
 /// The clauses of all shapes within the bounds on variables, with at most so many literals. Shapes stand in
 /// print order.
@@ -47,41 +49,71 @@ impl<T: Drop> From<AllocFailed<T>> for SpaceError {
 }
 
 impl From<Spent> for SpaceError {
+    ghost use Rattle.dai_template.specs.declared.space.SpaceError.TheVariants as Errors;
+
+    ghost from_gives = { λ _ error. error ≡ Errors.Spent };
+
     fn from(_error: Spent) -> SpaceError {
         SpaceError::Spent
     }
 }
 
 /// The most atoms of a shape, and the most clauses of a space.
-const MOST_ATOMS: usize = 64;
+const MOST_ATOMS: u64 = 64;
 
 const MOST_TEMPLATES: u128 = 200_000;
 
 impl Space {
-    /// The space of a protocol that declares no type: it has one shape, without variables, whose atoms are the
-    /// relations in order.
+    ghost use Rattle.std.specs.Prelude.{IfOk, OnOk, IfErr, vec_len};
+    ghost use Rattle.std.specs.List.{All};
+    ghost use Rattle.dai_logic.specs.Protocols.{protocol_of};
+    ghost use Rattle.dai_model.specs.Protocol.{Protocol as Meaning};
+    ghost use Rattle.dai_model.specs.Template.{Bounds};
+    ghost use Rattle.dai_model.specs.Subsumption.{print_order};
+    ghost use Rattle.dai_template.specs.Spaces.{IsSpaceOf, IsWithinLimits, IsSpaceError, clause_of};
+
+    /// The space of the protocol with at most so many variables of each type and so many literals. `vars` has one
+    /// bound for each type.
     ///
-    /// `Atoms` comes exactly where they are more than 64, and otherwise `Templates` exactly where the clauses
-    /// are more than 200,000.
+    /// `Atoms` comes exactly where the largest shape has more than 64 atoms, and otherwise `Templates` exactly
+    /// where the clauses of all shapes are more than 200,000, each with its count.
     pub fn new(
         alloc: Global,
         protocol: &Protocol,
-        _vars: &[u8],
+        vars: &[u8],
         lits: u8,
     ) -> Result<Space, SpaceError>
-        requires { lits ≤ 8 }
+        requires each { length vars.now ≡ vec_len protocol.now.sorts }
+        requires variables { All (λ bound. bound ≤ 4) vars.now }
+        requires literals { lits ≤ 8 }
+        ensures space { IfOk result (IsSpaceOf (protocol_of protocol.now) (record { variables = vars.now; literals = lits })) }
+        ensures within { OnOk result (IsWithinLimits (protocol_of protocol.now) (record { variables = vars.now; literals = lits })) }
+        ensures refused { IfErr result (IsSpaceError (protocol_of protocol.now) (record { variables = vars.now; literals = lits })) }
     {
-        let relations = protocol.relations.len();
-        if relations > MOST_ATOMS {
-            return Err(SpaceError::Atoms {
-                count: relations as u64,
-            });
+        let atoms = atom_count(protocol, vars);
+        if atoms > MOST_ATOMS {
+            return Err(SpaceError::Atoms { count: atoms });
         }
-        let templates = count(relations, lits);
+        let ways = counts_within(alloc, vars)?;
+        let templates = template_count(alloc, protocol, &ways, lits)?;
         if templates > MOST_TEMPLATES {
             return Err(SpaceError::Templates { count: templates });
         }
-        Ok(Space::of_flags(alloc, protocol, lits)?)
+        let shapes = in_print_order(alloc, protocol, &ways, sum_of(vars))?;
+        Ok(Space { shapes, lits })
+    }
+
+    /// Print order: by the number of variables, the counts, the number of literals and then the literals. Shapes
+    /// stand in print order, so their numbers decide first.
+    pub fn compare(&self, left: &Clause, right: &Clause) -> Ordering
+        requires left { left.now.shape < length self.now.shapes.items }
+        requires right { right.now.shape < length self.now.shapes.items }
+        ensures { (P : Meaning) (B : Bounds) → IsSpaceOf P B self.now → result ≡ print_order (clause_of self.now left.now) (clause_of self.now right.now) }
+    {
+        let shapes = left.shape.cmp(&right.shape);
+        let numbers = left.lits.len().cmp(&right.lits.len());
+        let literals = left.lits.as_slice().cmp(right.lits.as_slice());
+        shapes.then(numbers).then(literals)
     }
 
     /// The space of a protocol that declares no type and at most 64 relations: one shape, without variables,

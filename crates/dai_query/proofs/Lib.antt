@@ -1,0 +1,5 @@
+pub mod Counting
+pub mod Universal
+pub mod Profile
+pub mod Most
+pub mod Sample
