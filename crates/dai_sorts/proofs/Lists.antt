@@ -1,9 +1,10 @@
 -- Lists with one more element at the end, and the front of a list.
-use Rattle.std.proofs.Common.{◌≡◌, ℕ, ◌+◌, ◌<◌, ◌≤◌, Bool, true, false, cond, List, [], ◌∷◌, ◌++◌, length, get_or, take, drop, map, Option, None, Some, filter, ap, sym, ◌∙◌, refl, subst, arith, length-append, append_assoc}
+use Rattle.std.proofs.Common.{◌≡◌, ℕ, ◌+◌, ◌<◌, ◌≤◌, Bool, true, false, cond, List, [], ◌∷◌, ◌++◌, length, get_or, take, drop, map, Option, None, Some, filter, ap, sym, ◌∙◌, refl, subst, zero, suc, arith, length-append, append_assoc, add-one, drop-cons}
+use Rattle.std.specs.Prelude.{find}
 use Rattle.std.specs.List.{All, AllZip, filter_map, cons_option, enumerate_from}
 use Rattle.std.proofs.lemmas.List.{take_more, map-append, take-append-drop}
 use Rattle.std.proofs.lemmas.List.Elements.{filter_map-append, filter-append, All-take}
-use Rattle.std.proofs.Math.Seq.{take-append_seam}
+use Rattle.std.proofs.Math.Seq.{take-append_seam, drop-nil}
 
 pub append_nil : {X : Type 0} (xs : List X) → xs ++ [] ≡ xs
 append_nil [] = refl
@@ -67,3 +68,38 @@ All-front P xs ys h =
 pub nil_by_length : {X : Type 0} (xs : List X) → length xs ≡ 0 → xs ≡ []
 nil_by_length [] e = refl
 nil_by_length (x ∷ xs) e = absurd (omega arith)
+
+-- what is left of a list from the element at a place on
+pub drop_at : {X : Type 0} (xs : List X) (i : ℕ) (x : X) → i < length xs → x ≡ get_or xs i x → drop i xs ≡ x ∷ drop (i + 1) xs
+drop_at xs i x below is = rw (add-one, drop-cons xs i x) (ap (λ y. y ∷ drop (suc i) xs) (sym is))
+
+found_front : {X : Type 0} (p : X → Bool) (b : Bool) (x y : X) (o r : Option X) → (o ≡ Some y → r ≡ Some y) → cond b (Some x) o ≡ Some y → cond b (Some x) r ≡ Some y
+found_front p true x y o r further h = h
+found_front p false x y o r further h = further h
+
+pub find-append_found : {X : Type 0} (p : X → Bool) (xs ys : List X) (y : X) → find p xs ≡ Some y → find p (xs ++ ys) ≡ Some y
+find-append_found p [] ys y h = absurd (let k : ⊥ = cc in k)
+find-append_found p (x ∷ xs) ys y h = found_front p (p x) x y (find p xs) (find p (xs ++ ys)) (find-append_found p xs ys y) h
+
+absent_front : {X : Type 0} (b : Bool) (x : X) (o r s : Option X) → (o ≡ None → r ≡ s) → cond b (Some x) o ≡ None → cond b (Some x) r ≡ s
+absent_front true x o r s further h = absurd (let k : ⊥ = cc in k)
+absent_front false x o r s further h = further h
+
+pub find-append_absent : {X : Type 0} (p : X → Bool) (xs ys : List X) → find p xs ≡ None → find p (xs ++ ys) ≡ find p ys
+find-append_absent p [] ys h = refl
+find-append_absent p (x ∷ xs) ys h = absent_front (p x) x (find p xs) (find p (xs ++ ys)) (find p ys) (find-append_absent p xs ys) h
+
+drop_suc : {X : Type 0} (xs : List X) (i : ℕ) → drop (suc i) xs ≡ drop 1 (drop i xs)
+drop_suc [] zero = refl
+drop_suc [] (suc i) = sym (ap (λ ys. drop 1 ys) (drop-nil (suc i)))
+drop_suc (x ∷ xs) zero = refl
+drop_suc (x ∷ xs) (suc i) = drop_suc xs i
+
+pub drop_next : {X : Type 0} (xs : List X) (i : ℕ) → drop (i + 1) xs ≡ drop 1 (drop i xs)
+drop_next xs i = rw add-one (drop_suc xs i)
+
+pub take_at : {X : Type 0} (xs : List X) (i : ℕ) (x : X) → i < length xs → x ≡ get_or xs i x → take (i + 1) xs ≡ take i xs ++ x ∷ []
+take_at xs i x below is = take_more xs i x below ∙ ap (λ y. take i xs ++ y ∷ []) (sym is)
+
+pub drop_from : {X : Type 0} (xs : List X) (i : ℕ) (d : X) → i < length xs → drop i xs ≡ get_or xs i d ∷ drop (i + 1) xs
+drop_from xs i d below = rw (add-one, drop-cons xs i d) refl
