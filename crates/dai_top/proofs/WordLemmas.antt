@@ -1,11 +1,8 @@
 -- The first two of several words, and what the definitions say there.
-use Rattle.std.proofs.Common.{◌≡◌, ◌-◌, ◌<◌, ◌≤◌, ℕ, zero, suc, Bool, true, false, List, [], ◌∷◌, length, get_or, take, drop, map, Option, Some, None, Result, Ok, Err, sym, ◌∙◌, ap, subst, refl, arith}
-use Rattle.std.specs.Prelude.{String, string_bytes, codes, nat_le, ◌==◌}
+use Rattle.std.proofs.Common.{◌≡◌, ◌-◌, ◌≤◌, ℕ, zero, suc, Bool, true, false, List, [], ◌∷◌, length, get_or, take, drop, None, ap, refl, arith}
+use Rattle.std.specs.Prelude.{String, string_bytes, ◌==◌}
 use Rattle.std.specs.declared.alloc.Global.{Global}
-use Rattle.std.specs.Str.{bytes_eq}
-use Rattle.std.specs.Str.Parse.{digits_value}
-use Rattle.std.proofs.lemmas.Bool.Decides.{nat_tests}
-use Rattle.dai_top.specs.Words.{Refusal, Choices, bad_words, out_of_range, is_number, number_at_most, is_operand, literals_of, then_literals, with_operand, settings_of}
+use Rattle.dai_top.specs.Words.{literals_of}
 use Rattle.dai_top.specs.Readings.{texts, any_more}
 use Rattle.std.proofs.lemmas.List.{length-map}
 

@@ -1,12 +1,12 @@
 -- What the program answers, and what it puts to its sinks.
-use Rattle.std.specs.Prelude.{◌≡◌, ℕ, ◌<◌, ◌≤◌, ◌⊎◌, List, [], ◌++◌, length, codes, Option, Some, None, Result, Ok, Err, IsSomeAnd}
+use Rattle.std.specs.Prelude.{◌≡◌, ℕ, ◌<◌, ◌≤◌, ◌⊎◌, List, [], ◌++◌, length, codes, Option, Some, IsSomeAnd}
 use Rattle.dai_base.specs.Count.{Rises}
 use Rattle.dai_base.specs.Sink.{Appends, AppendsPart}
 use Rattle.dai_base.specs.Files.{Holdings}
 use Rattle.dai_base.specs.Fault.{fault_text}
 use Rattle.dai_base.specs.declared.fault.Fault.TheVariants.{Words, InFile, TooLong}
 use Rattle.dai_base.specs.declared.fault.Place.{Place}
-use Rattle.dai_top.specs.Words.{Refusal, Choices, settings_of}
+use Rattle.dai_top.specs.Words.{Refusal}
 use Rattle.dai_top.specs.Refusals.{IsFaultOf}
 
 -- Where a line is to be put with a status: it was put whole, with that status; or the sink's count of faults

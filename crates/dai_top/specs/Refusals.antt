@@ -1,5 +1,5 @@
 -- Which bytes of a file are refused, by which number and at which place.
-use Rattle.std.specs.Prelude.{ℕ, ◌≡◌, ◌≤◌, List, take, length}
+use Rattle.std.specs.Prelude.{ℕ, ◌≤◌, List, take, length}
 use Rattle.dai_base.specs.Place.{IsPlaceAfter}
 use Rattle.dai_base.specs.declared.fault.Place.{Place}
 use Rattle.dai_lex.specs.declared.token.Token.{Token}
@@ -9,6 +9,7 @@ use Rattle.dai_syntax.specs.declared.error.SyntaxError.TheVariants.{Unexpected, 
 use Rattle.dai_syntax.specs.Tree.{Declaration}
 use Rattle.dai_syntax.specs.Viable.{IsFile, IsSyntaxFault}
 use Rattle.dai_model.specs.Protocol.{Protocol}
+use Rattle.dai_sorts.specs.Faults.{IsFirstSortFault, IsFaultless}
 use Rattle.dai_sorts.specs.Files.{IsFlagFile}
 
 -- the number of a fault of the grammar, and the offset of its place
@@ -30,12 +31,13 @@ pub record AreFewFlags (ds : List Declaration) : Type 0 where
   pub is : IsFlagFile ds protocol
   pub few : length protocol.relations ≤ 10
 
--- The bytes have no tokens, or the tokens are no file, or the file is none of flags: the number of the fault, and
--- the offset of its place.
+-- The bytes have no tokens, or the tokens are no file, or the file breaks a rule of sorts, or it breaks none and is
+-- none of flags: the number of the fault, and the offset of its place.
 pub data IsRefusedAt (bytes : List ℕ) : ℕ → ℕ → Type 0 where
   bad_byte : {at : ℕ} → IsBadAt bytes at → IsRefusedAt bytes 10 at
   bad_token : {tokens : List Token} {e : SyntaxError} → IsTokens bytes tokens → IsSyntaxFault bytes tokens e → IsRefusedAt bytes (number_of e) (offset_of e)
-  no_flags : {tokens : List Token} {ds : List Declaration} → IsTokens bytes tokens → IsFile bytes tokens ds → (AreFewFlags ds → ⊥) → IsRefusedAt bytes 20 0
+  bad_sorts : {tokens : List Token} {ds : List Declaration} {number at : ℕ} → IsTokens bytes tokens → IsFile bytes tokens ds → IsFirstSortFault ds number at → IsRefusedAt bytes number at
+  no_flags : {tokens : List Token} {ds : List Declaration} → IsTokens bytes tokens → IsFile bytes tokens ds → IsFaultless ds → (AreFewFlags ds → ⊥) → IsRefusedAt bytes 20 0
 
 abbrev pub IsAccepted : List ℕ → Type 0
 IsAccepted bytes = (number at : ℕ) → IsRefusedAt bytes number at → ⊥

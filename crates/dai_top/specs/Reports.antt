@@ -1,12 +1,14 @@
 -- What the answer without a report says of the bytes.
-use Rattle.std.specs.Prelude.{ℕ, ◌≤◌, List, length}
+use Rattle.std.specs.Prelude.{ℕ, List}
 use Rattle.dai_base.specs.Fault.{IsInTable}
 use Rattle.dai_lex.specs.declared.token.LexError.{LexError}
 use Rattle.dai_lex.specs.declared.token.LexError.TheVariants as Lex
+use Rattle.dai_sorts.specs.Faults.{IsFirstSortFault}
 use Rattle.dai_sorts.specs.declared.error.SortError.{SortError}
 use Rattle.dai_sorts.specs.declared.error.SortError.TheVariants as Sorts
 use Rattle.dai_syntax.specs.declared.error.SyntaxError.{SyntaxError}
 use Rattle.dai_syntax.specs.declared.error.SyntaxError.TheVariants as Syntax
+use Rattle.dai_syntax.specs.Tree.{Declaration}
 use Rattle.dai_top.specs.declared.inference.NoReport.{NoReport}
 use Rattle.dai_top.specs.declared.inference.NoReport.TheVariants.{Refused, Spent}
 use Rattle.dai_top.specs.Refusals.{IsRefusedAt}
@@ -26,10 +28,14 @@ abbrev pub protocol_refusal : SortError → NoReport
 protocol_refusal (Sorts.Bad number at) = Refused 20 0
 protocol_refusal Sorts.Spent = Spent
 
--- a refusal is that of the bytes, at an offset within them, with a number of the table
+-- the answer to a file that breaks a rule of sorts
+abbrev pub IsSortRefusal : List Declaration → NoReport → Type 0
+IsSortRefusal ds (Refused number at) = IsFirstSortFault ds number at
+IsSortRefusal ds Spent = Unit {0}
+
+-- a refusal is that of the bytes, with a number of the table
 pub record IsRefusal (bytes : List ℕ) (number at : ℕ) : Type 0 where
   pub refused : IsRefusedAt bytes number at
-  pub within : at ≤ length bytes
   pub listed : IsInTable number
 
 abbrev pub IsNoReport : List ℕ → NoReport → Type 0

@@ -1,18 +1,20 @@
 //! From the bytes of a file to its report.
-ghost use Rattle.std.specs.Prelude.{◌≡◌, ◌<◌, ◌≤◌, length, IfOk, IfErr};
+ghost use Rattle.std.specs.Prelude.{◌≡◌, ◌<◌, ◌≤◌, length, OnOk, IfOk, IfErr};
+ghost use Rattle.dai_syntax.specs.Trees.{declarations_of};
 ghost use Rattle.dai_logic.specs.Protocols.{protocol_of};
+ghost use Rattle.dai_sorts.specs.Faults.{IsFaultless};
 ghost use Rattle.dai_sorts.specs.Flags.{IsFlagProtocol};
 ghost use Rattle.dai_table.specs.Flags.{IsTableOf};
 ghost use Rattle.dai_top.specs.Refusals.{IsAccepted};
-ghost use Rattle.dai_top.specs.Reports.{IsNoReport, byte_refusal, token_refusal, protocol_refusal};
+ghost use Rattle.dai_top.specs.Reports.{IsNoReport, IsSortRefusal, byte_refusal, token_refusal, protocol_refusal};
 
 use dai_base::Spent;
 use dai_lex::{LexError, lex, one_reading};
 use dai_logic::Protocol;
 use dai_order::Antichain;
 use dai_print::report_text;
-use dai_sorts::{SortError, check};
-use dai_syntax::{SyntaxError, one_fault, one_file, parse};
+use dai_sorts::{SortError, check, sort_fault};
+use dai_syntax::{File, SyntaxError, one_fault, one_file, parse};
 use dai_table::{MOST_FLAGS, TruthTable};
 use dai_template::Space;
 use dai_weaken::greatest_list;
@@ -44,8 +46,9 @@ impl From<Spent> for NoReport {
     }
 }
 
-/// The report of the bytes of a file. They are refused by the first fault of their tokens or of the grammar, or,
-/// where they are read, by 20 at their first byte if they are no file of at most ten flags.
+/// The report of the bytes of a file. They are refused by the first fault of their tokens or of the grammar; where
+/// they are read, by the first fault against the rules of sorts; and where there is none, by 20 at their first byte
+/// if they are no file of at most ten flags.
 pub fn infer(alloc: Global, bytes: &[u8], lits: u8) -> Result<Report, NoReport>
     requires short { length bytes.now ≤ 1048576 }
     requires literals { lits ≤ 8 }
@@ -74,9 +77,24 @@ fn read_flags(alloc: Global, bytes: &[u8]) -> Result<Protocol, NoReport>
         Ok(file) => file,
         Err(error) => return Err(no_file(error)),
     };
+    obey_rules(alloc, &file)?;
     match check(alloc, &file) {
         Ok(protocol) => Ok(few_flags(protocol)?),
         Err(error) => Err(no_protocol(error)),
+    }
+}
+
+/// Whether the file breaks no rule of sorts.
+fn obey_rules(alloc: Global, file: &File) -> Result<(), NoReport>
+    ensures faultless { OnOk result (IsFaultless (declarations_of file.now)) }
+    ensures refused { IfErr result (IsSortRefusal (declarations_of file.now)) }
+{
+    match sort_fault(alloc, file)? {
+        Some(fault) => Err(NoReport::Refused {
+            number: fault.number,
+            at: fault.at,
+        }),
+        None => Ok(()),
     }
 }
 

@@ -12,12 +12,14 @@ const SWAP: &str =
     "relation x\nrelation y\nrelation bad\nafter init { x := true; y := false; bad := false }\naction u = {\n  if x { x := false; y := true } else { x := true; y := false }\n}\naction t = { require x & y; bad := true }\nexport u\nexport t\ninvariant [safe] ~bad\n";
 
 /// The files that are held.
-const HELD: [(&str, &str); 9] = [
+const HELD: [(&str, &str); 11] = [
     ("ab.ivy", TWO_FLAGS),
     ("swap.ivy", SWAP),
     ("none.ivy", "relation p\naxiom p & ~p\n"),
     ("empty.ivy", ""),
     ("typed.ivy", "type t\n"),
+    ("twice.ivy", "relation p\nrelation p\n"),
+    ("untyped.ivy", "type t\ninvariant X = Y"),
     ("byte.ivy", "relation p$"),
     ("token.ivy", "relation p q"),
     ("end.ivy", "relation p\naction a = { p :="),
@@ -25,7 +27,7 @@ const HELD: [(&str, &str); 9] = [
 ];
 
 /// Words, and the status, `out` and `err` that answer them.
-const ROWS: [(&str, u8, &str, &str); 15] = [
+const ROWS: [(&str, u8, &str, &str); 17] = [
     (
         "infer ab.ivy --lits 2",
         0,
@@ -39,6 +41,18 @@ const ROWS: [(&str, u8, &str, &str); 15] = [
         2,
         "",
         "typed.ivy:1:1: E20 not in the profile\n",
+    ),
+    (
+        "infer twice.ivy",
+        2,
+        "",
+        "twice.ivy:2:10: E21 declared twice\n",
+    ),
+    (
+        "infer untyped.ivy",
+        2,
+        "",
+        "untyped.ivy:2:11: E25 undetermined variable\n",
     ),
     ("infer byte.ivy", 2, "", "byte.ivy:1:11: E10 bad byte\n"),
     (

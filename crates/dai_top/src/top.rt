@@ -1,7 +1,8 @@
 //! The top call.
-ghost use Rattle.std.specs.Prelude.{◌≡◌, ℕ, ◌+◌, ◌≤◌, ◌<◌, ◌⊎◌, List, length, Some, Ok, Err, string_bytes};
+ghost use Rattle.std.specs.Prelude.{◌≡◌, ℕ, ◌+◌, ◌≤◌, ◌<◌, ◌⊎◌, List, length, take, Some, Ok, Err, string_bytes};
 ghost use Rattle.dai_base.specs.Count.{Rises, RisesByOne};
 ghost use Rattle.dai_base.specs.Files.{Holdings};
+ghost use Rattle.dai_base.specs.Place.{IsPlaceAfter};
 ghost use Rattle.dai_base.specs.Sink.{Appends};
 ghost use Rattle.dai_top.specs.Words.{Refusal, Choices, settings_of};
 ghost use Rattle.dai_top.specs.Readings.{texts};
@@ -14,9 +15,9 @@ use crate::console::{SPENT, put_lines, tell, tell_unreadable};
 use crate::inference::{NoReport, infer};
 use crate::settings::{Settings, WordsError};
 use crate::words::read_words;
-use dai_base::{Fault, Files, ReadError, Sink, place};
+use dai_base::{Fault, Files, Place, ReadError, Sink, place};
 use dai_lex::one_reading;
-use dai_syntax::one_fault;
+use dai_syntax::{one_fault, one_file};
 use std::alloc::Global;
 
 /// The most bytes of a file.
@@ -123,11 +124,24 @@ fn tell_error<E: Sink>(alloc: Global, name: &str, bytes: &[u8], error: NoReport,
 {
     one_reading();
     one_fault();
+    one_file();
     match error {
         NoReport::Refused { number, at } => {
-            let at = place(bytes, at);
+            let at = place_after(bytes, at);
             tell(alloc, name, &Fault::InFile { number, at }, err)
         }
         NoReport::Spent => SPENT,
+    }
+}
+
+/// The place after the first `at` bytes, or after all of them where there are fewer.
+fn place_after(bytes: &[u8], at: u32) -> Place
+    requires short { length bytes.now ≤ 1048576 }
+    ensures { IsPlaceAfter (take at bytes.now) result }
+{
+    if at as usize <= bytes.len() {
+        place(bytes, at)
+    } else {
+        place(bytes, bytes.len() as u32)
     }
 }

@@ -1,6 +1,5 @@
-use Rattle.std.proofs.Common.{◌≡◌, ◌≤◌, ◌<◌, ◌+◌, ◌-◌, ◌*◌, take, get_or, arith, ap}
-use Rattle.std.specs.Str.Parse.{digits_value}
-use Rattle.dai_top.proofs.Digits.{each_digit, value_more, front_no_greater}
+use Rattle.std.proofs.Common.{◌+◌, arith}
+use Rattle.dai_top.proofs.Digits.{value_more, front_no_greater}
 use Rattle.dai_top.proofs.number.value_within.Goals as goal
 
 pub returns-then-value-most-clause-beyond : goal.returns-then-value-most-clause-beyond

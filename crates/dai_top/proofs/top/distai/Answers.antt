@@ -1,4 +1,4 @@
-use Rattle.std.proofs.Common.{◌≡◌, ℕ, sym, ◌∙◌, ap, subst, refl, Ok, Err}
+use Rattle.std.proofs.Common.{◌≡◌, sym, ◌∙◌, ap, subst, refl}
 use Rattle.dai_top.specs.Words.{Refusal, Choices}
 use Rattle.dai_top.specs.Readings.{choices_of}
 use Rattle.dai_top.specs.Outcome.{IsTold, words_fault}

@@ -1,4 +1,4 @@
-use Rattle.std.proofs.Common.{◌≡◌, ◌-◌, ℕ, List, [], ◌∷◌, length, take, drop, sym, ◌∙◌, ap, subst, refl, None, Result}
+use Rattle.std.proofs.Common.{◌-◌, ℕ, List, ◌∷◌, length, take, drop, sym, ◌∙◌, ap, subst, None, Result}
 use Rattle.std.specs.Prelude.{string_bytes, ◌==◌}
 use Rattle.dai_top.specs.Words.{Refusal, literals_of}
 use Rattle.dai_top.specs.Readings.{texts, any_more, ReadsNumber}
