@@ -18,6 +18,7 @@ fn no_space(alloc: Global) -> Space {
     Space {
         shapes: Vec::new(alloc),
         lits: 2,
+        ordered: Vec::new(alloc),
     }
 }
 

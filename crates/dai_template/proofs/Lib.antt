@@ -5,3 +5,15 @@ pub mod Views
 pub mod Listed
 pub mod PrintOrder
 pub mod Sample
+pub mod ForAll
+pub mod Flat
+pub mod Clashes
+pub mod ClauseFormula
+pub mod Written
+pub mod Clauses
+pub mod Named
+pub mod Read
+pub mod Truth
+pub mod MetFrom
+pub mod Choices
+pub mod Asked

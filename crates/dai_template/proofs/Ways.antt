@@ -17,15 +17,15 @@ WithinEach [] (b ∷ bs) = ⊥
 WithinEach (n ∷ ns) [] = ⊥
 WithinEach (n ∷ ns) (b ∷ bs) = (n ≤ b) × WithinEach ns bs
 
-Each-append : {X : Type 0} (P : X → Type 0) (xs ys : List X) → Each P xs → Each P ys → Each P (xs ++ ys)
+pub Each-append : {X : Type 0} (P : X → Type 0) (xs ys : List X) → Each P xs → Each P ys → Each P (xs ++ ys)
 Each-append P [] ys h k = k
 Each-append P (x ∷ xs) ys h k = (h.0, Each-append P xs ys h.1 k)
 
-Each-map : {X Y : Type 0} (P : X → Type 0) (Q : Y → Type 0) (f : X → Y) (xs : List X) → ((x : X) → P x → Q (f x)) → Each P xs → Each Q (map f xs)
+pub Each-map : {X Y : Type 0} (P : X → Type 0) (Q : Y → Type 0) (f : X → Y) (xs : List X) → ((x : X) → P x → Q (f x)) → Each P xs → Each Q (map f xs)
 Each-map P Q f [] step h = tt
 Each-map P Q f (x ∷ xs) step h = (step x h.0, Each-map P Q f xs step h.1)
 
-Each-flat_map : {X Y : Type 0} (P : X → Type 0) (Q : Y → Type 0) (f : X → List Y) (xs : List X) → ((x : X) → P x → Each Q (f x)) → Each P xs → Each Q (flat_map f xs)
+pub Each-flat_map : {X Y : Type 0} (P : X → Type 0) (Q : Y → Type 0) (f : X → List Y) (xs : List X) → ((x : X) → P x → Each Q (f x)) → Each P xs → Each Q (flat_map f xs)
 Each-flat_map P Q f [] step h = tt
 Each-flat_map P Q f (x ∷ xs) step h = Each-append Q (f x) _ (step x h.0) (Each-flat_map P Q f xs step h.1)
 
@@ -70,7 +70,7 @@ fewer_atoms P counts bounds h =
     let right = atoms_of-length P bounds in
     omega (arith, a, b, left, right)
 
-Each-weaker : {X : Type 0} (P Q : X → Type 0) (xs : List X) → ((x : X) → P x → Q x) → Each P xs → Each Q xs
+pub Each-weaker : {X : Type 0} (P Q : X → Type 0) (xs : List X) → ((x : X) → P x → Q x) → Each P xs → Each Q xs
 Each-weaker P Q [] h k = tt
 Each-weaker P Q (x ∷ xs) h k = (h x k.0, Each-weaker P Q xs h k.1)
 

@@ -1,2 +1,4 @@
 pub mod Atoms
+pub mod ClauseFormulas
+pub mod Meeting
 pub mod Spaces

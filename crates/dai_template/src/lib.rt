@@ -4,7 +4,10 @@
 mod atoms;
 mod clause;
 mod counting;
+mod formulas;
+pub mod laws;
 mod listing;
+mod meeting;
 mod shapes;
 mod space;
 #[cfg(test)]

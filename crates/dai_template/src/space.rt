@@ -1,11 +1,13 @@
 //! The template space of a protocol.
-ghost use Rattle.std.specs.Prelude.{◌≡◌, ◌≤◌, ◌<◌, length};
+ghost use Rattle.std.specs.Prelude.{◌≡◌, ◌≤◌, ◌<◌, length, map, IfOk};
+ghost use Rattle.dai_model.specs.Protocol.{Sort};
+ghost use Rattle.dai_logic.specs.Parts.{sort_of};
 
 use crate::clause::{Atom, Clause, Shape};
 use crate::counting::{atom_count, template_count};
 use crate::shapes::{counts_within, in_print_order, sum_of};
 use dai_base::Spent;
-use dai_logic::Protocol;
+use dai_logic::{Protocol, SortInfo};
 use std::alloc::{AllocError, AllocFailed, Global};
 use std::cmp::Ordering;
 
@@ -15,6 +17,8 @@ use std::cmp::Ordering;
 pub struct Space {
     pub shapes: Vec<Shape>,
     pub lits: u8,
+    /// Which of the protocol's types are ordered.
+    pub ordered: Vec<bool>,
 }
 
 /// Why there is no space: it is past a limit.
@@ -58,13 +62,24 @@ impl From<Spent> for SpaceError {
     }
 }
 
+/// Which of the types are ordered.
+fn orders(alloc: Global, sorts: &[SortInfo]) -> Result<Vec<bool>, Spent>
+    ensures { IfOk result (λ orders. orders.items ≡ map (λ (T : Sort). T.ordered) (map sort_of sorts.now)) }
+{
+    let mut orders = Vec::with_capacity(alloc, sorts.len())?;
+    for sort in sorts {
+        orders.push(sort.ordered)?;
+    }
+    Ok(orders)
+}
+
 /// The most atoms of a shape, and the most clauses of a space.
 const MOST_ATOMS: u64 = 64;
 
 const MOST_TEMPLATES: u128 = 200_000;
 
 impl Space {
-    ghost use Rattle.std.specs.Prelude.{IfOk, OnOk, IfErr, vec_len};
+    ghost use Rattle.std.specs.Prelude.{OnOk, IfErr, vec_len};
     ghost use Rattle.std.specs.List.{All};
     ghost use Rattle.dai_logic.specs.Protocols.{protocol_of};
     ghost use Rattle.dai_model.specs.Protocol.{Protocol as Meaning};
@@ -100,7 +115,11 @@ impl Space {
             return Err(SpaceError::Templates { count: templates });
         }
         let shapes = in_print_order(alloc, protocol, &ways, sum_of(vars))?;
-        Ok(Space { shapes, lits })
+        Ok(Space {
+            shapes,
+            lits,
+            ordered: orders(alloc, &protocol.sorts)?,
+        })
     }
 
     /// Print order: by the number of variables, the counts, the number of literals and then the literals. Shapes
@@ -134,6 +153,10 @@ impl Space {
             counts: Vec::new(alloc),
             atoms,
         })?;
-        Ok(Space { shapes, lits })
+        Ok(Space {
+            shapes,
+            lits,
+            ordered: Vec::new(alloc),
+        })
     }
 }

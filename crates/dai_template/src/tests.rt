@@ -98,7 +98,11 @@ fn flags(alloc: Global, number: u8, lits: u8) -> Result<Space, Fail> {
         counts: Vec::new(alloc),
         atoms,
     })?;
-    Ok(Space { shapes, lits })
+    Ok(Space {
+        shapes,
+        lits,
+        ordered: Vec::new(alloc),
+    })
 }
 
 #[test]
