@@ -2,6 +2,7 @@ pub mod Placed
 pub mod Tree
 pub mod Trees
 pub mod Symbols
+pub mod Values
 pub mod Grammar
 pub mod Viable
 pub mod Reading

@@ -1,6 +1,7 @@
 //! Formulas by recursive descent. A chain is read by a loop, so only what nests deepens the recursion.
 ghost use Rattle.std.specs.Prelude.{◌≡◌, ◌≤◌, ◌∷◌, [], IfOk, IfErr, Some};
 ghost use Rattle.dai_syntax.specs.Symbols.{formula, implication, disjunction, conjunction, operand, v_formula};
+ghost use Rattle.dai_syntax.specs.Tree as Tree;
 ghost use Rattle.dai_syntax.specs.Trees.{formula_of};
 ghost use Rattle.dai_syntax.specs.Endings.{quantifier};
 ghost use Rattle.dai_syntax.specs.Reading.{Reads, FailsAt, kind_ahead};
@@ -9,7 +10,7 @@ use crate::binders::{Class, binders, type_mark};
 use crate::cursor::Cursor;
 use crate::error::SyntaxError;
 use crate::terms::{Ending, atom_end, comparison, term};
-use crate::tree::{Arg, Form};
+use crate::tree::{Arg, Form, Op};
 use dai_lex::Kind;
 use std::alloc::{AllocError, AllocFailed, Global};
 
@@ -196,11 +197,7 @@ fn atom(cursor: &mut Cursor, depth: u32) -> Result<Form, SyntaxError>
             args: Vec::new(cursor.alloc),
         }),
         Ending::Applied(args) => Ok(Form::Atom { name, args }),
-        Ending::Compared(op, right) => Ok(Form::Compare {
-            left: Arg::Symbol { name },
-            op,
-            right,
-        }),
+        Ending::Compared(op, right) => compared(cursor.alloc, Arg::Symbol { name }, op, right),
     }
 }
 
@@ -212,10 +209,19 @@ fn comparison_of_variable(cursor: &mut Cursor, depth: u32) -> Result<Form, Synta
     let name = cursor.word(Kind::Upper)?;
     let sort = type_mark(cursor, Class::Variable)?;
     let op = comparison(cursor)?;
+    let right = term(cursor)?;
+    compared(cursor.alloc, Arg::Variable { name, sort }, op, right)
+}
+
+/// A comparison. Its sides are boxed, so that a formula is small.
+fn compared(alloc: Global, left: Arg, op: Op, right: Arg) -> Result<Form, SyntaxError>
+    ensures form { IfOk result (λ f. formula_of f ≡ Tree.comparison left op right) }
+    ensures spent { IfErr result (λ e. e ≡ SyntaxError.Spent) }
+{
     Ok(Form::Compare {
-        left: Arg::Variable { name, sort },
+        left: Box::new(alloc, left)?,
         op,
-        right: term(cursor)?,
+        right: Box::new(alloc, right)?,
     })
 }
 
