@@ -45,7 +45,7 @@ pub data Production (bytes : List ℕ) (limit : ℕ) : Symbol → Kind → List 
   an_exported_action : Production bytes limit exported K.WordAction (action_parts true ∷ []) passed
   an_exported_name : Production bytes limit exported K.Lower [] (as_export bytes)
   the_action : {is_exported : Bool}
-    → Production bytes limit (action_parts is_exported) K.Lower (bracketed Parameter ∷ sign K.Equal ∷ block 0 ∷ []) (as_action bytes is_exported)
+      → Production bytes limit (action_parts is_exported) K.Lower (bracketed Parameter ∷ sign K.Equal ∷ block 0 ∷ []) (as_action bytes is_exported)
   -- ( "invariant" | "conjecture" ) [ label ] formula
   an_invariant : Production bytes limit declaration K.WordInvariant (label ∷ formula 0 ∷ []) as_invariant
   a_conjecture : Production bytes limit declaration K.WordConjecture (label ∷ formula 0 ∷ []) as_invariant
@@ -56,9 +56,9 @@ pub data Production (bytes : List ℕ) (limit : ℕ) : Symbol → Kind → List 
   a_number_label : Production bytes limit label_word K.Digits [] (named bytes)
   -- binder { "," binder }, where a binder is a name or variable with ":" and its type
   some_binders : {class : Class}
-    → Production bytes limit (bracketed class) K.OpenRound (binders class ∷ sign K.CloseRound ∷ []) passed
+      → Production bytes limit (bracketed class) K.OpenRound (binders class ∷ sign K.CloseRound ∷ []) passed
   further_binders : {class : Class}
-    → Production bytes limit (more_binders class) K.Comma (binder class ∷ more_binders class ∷ []) (λ t. as_binders)
+      → Production bytes limit (more_binders class) K.Comma (binder class ∷ more_binders class ∷ []) (λ t. as_binders)
   a_named_argument : Production bytes limit (binder Argument) K.Lower (type_mark Argument ∷ []) (as_binder bytes)
   a_variable_argument : Production bytes limit (binder Argument) K.Upper (type_mark Argument ∷ []) (as_binder bytes)
   a_named_parameter : Production bytes limit (binder Parameter) K.Lower (type_mark Parameter ∷ []) (as_binder bytes)
@@ -66,53 +66,53 @@ pub data Production (bytes : List ℕ) (limit : ℕ) : Symbol → Kind → List 
   a_mark : {class : Class} → Production bytes limit (type_mark class) K.Colon (name ∷ []) as_mark
   -- "{" [ stat { [";"] stat } [ ";" ] ] "}"
   a_block : {depth : ℕ} → depth < limit
-    → Production bytes limit (block depth) K.OpenCurly (statements (depth + 1) ∷ sign K.CloseCurly ∷ []) passed
+      → Production bytes limit (block depth) K.OpenCurly (statements (depth + 1) ∷ sign K.CloseCurly ∷ []) passed
   -- ( "require" | "assume" ) formula
   a_requirement : {depth : ℕ}
-    → Production bytes limit (statements depth) K.WordRequire (formula depth ∷ after_statement depth ∷ []) as_requirement
+      → Production bytes limit (statements depth) K.WordRequire (formula depth ∷ after_statement depth ∷ []) as_requirement
   an_assumption : {depth : ℕ}
-    → Production bytes limit (statements depth) K.WordAssume (formula depth ∷ after_statement depth ∷ []) as_requirement
+      → Production bytes limit (statements depth) K.WordAssume (formula depth ∷ after_statement depth ∷ []) as_requirement
   -- Lower [ "(" term { "," term } ")" ] ":=" formula
   an_assignment : {depth : ℕ}
-    → Production bytes limit (statements depth) K.Lower (targets ∷ sign K.Assign ∷ right_side depth ∷ after_statement depth ∷ []) (as_assignment bytes)
+      → Production bytes limit (statements depth) K.Lower (targets ∷ sign K.Assign ∷ right_side depth ∷ after_statement depth ∷ []) (as_assignment bytes)
   -- "if" formula block [ "else" ( block | cond ) ]
   a_conditional : {depth : ℕ} → depth < limit
-    → Production bytes limit (statements depth) K.WordIf (condition depth ∷ after_block depth ∷ []) as_statements
+      → Production bytes limit (statements depth) K.WordIf (condition depth ∷ after_block depth ∷ []) as_statements
   -- "local" param { "," param } block
   some_locals : {depth : ℕ} → depth < limit
-    → Production bytes limit (statements depth) K.WordLocal (binders Parameter ∷ block depth ∷ after_block depth ∷ []) as_locals
+      → Production bytes limit (statements depth) K.WordLocal (binders Parameter ∷ block depth ∷ after_block depth ∷ []) as_locals
   a_semicolon : {depth : ℕ} → Production bytes limit (after_statement depth) K.Semicolon (statements depth ∷ []) passed
   a_free_semicolon : {depth : ℕ} → Production bytes limit (after_block depth) K.Semicolon (statements depth ∷ []) passed
   an_alternative : {depth : ℕ} → depth + 1 < limit
-    → Production bytes limit (otherwise depth) K.WordElse (alternative (depth + 1) ∷ []) passed
+      → Production bytes limit (otherwise depth) K.WordElse (alternative (depth + 1) ∷ []) passed
   a_further_condition : {depth : ℕ} → depth < limit
-    → Production bytes limit (alternative depth) K.WordIf (condition depth ∷ []) as_one_statement
+      → Production bytes limit (alternative depth) K.WordIf (condition depth ∷ []) as_one_statement
   some_targets : Production bytes limit targets K.OpenRound (terms ∷ sign K.CloseRound ∷ []) passed
   -- formula = imp { "<->" imp }, imp = or [ "->" imp ], or = and { "|" and }, and = unary { "&" unary }
   an_equivalent : {depth : ℕ}
-    → Production bytes limit (more_equivalents depth) K.DoubleArrow (implication depth ∷ more_equivalents depth ∷ []) as_formulas
+      → Production bytes limit (more_equivalents depth) K.DoubleArrow (implication depth ∷ more_equivalents depth ∷ []) as_formulas
   a_consequence : {depth : ℕ} → depth < limit
-    → Production bytes limit (consequence depth) K.Arrow (implication (depth + 1) ∷ []) as_consequence
+      → Production bytes limit (consequence depth) K.Arrow (implication (depth + 1) ∷ []) as_consequence
   a_disjunct : {depth : ℕ}
-    → Production bytes limit (more_disjuncts depth) K.Bar (conjunction depth ∷ more_disjuncts depth ∷ []) as_formulas
+      → Production bytes limit (more_disjuncts depth) K.Bar (conjunction depth ∷ more_disjuncts depth ∷ []) as_formulas
   a_conjunct : {depth : ℕ}
-    → Production bytes limit (more_conjuncts depth) K.Ampersand (operand depth ∷ more_conjuncts depth ∷ []) as_formulas
+      → Production bytes limit (more_conjuncts depth) K.Ampersand (operand depth ∷ more_conjuncts depth ∷ []) as_formulas
   -- unary = "~" unary | quant | "true" | "false" | "(" formula ")" | atom
   a_negation : {depth : ℕ} → depth < limit
-    → Production bytes limit (operand depth) K.Tilde (operand (depth + 1) ∷ []) as_negation
+      → Production bytes limit (operand depth) K.Tilde (operand (depth + 1) ∷ []) as_negation
   a_truth : {depth : ℕ} → Production bytes limit (operand depth) K.WordTrue [] (as_truth true)
   a_falsehood : {depth : ℕ} → Production bytes limit (operand depth) K.WordFalse [] (as_truth false)
   a_bracket : {depth : ℕ} → depth < limit
-    → Production bytes limit (operand depth) K.OpenRound (formula (depth + 1) ∷ sign K.CloseRound ∷ []) passed
+      → Production bytes limit (operand depth) K.OpenRound (formula (depth + 1) ∷ sign K.CloseRound ∷ []) passed
   -- quant = ( "forall" | "exists" ) qvar { "," qvar } "." formula
   a_universal : {depth : ℕ} → depth < limit
-    → Production bytes limit (operand depth) K.WordForall (binders Variable ∷ sign K.Dot ∷ formula (depth + 1) ∷ []) (as_quantified true)
+      → Production bytes limit (operand depth) K.WordForall (binders Variable ∷ sign K.Dot ∷ formula (depth + 1) ∷ []) (as_quantified true)
   an_existential : {depth : ℕ} → depth < limit
-    → Production bytes limit (operand depth) K.WordExists (binders Variable ∷ sign K.Dot ∷ formula (depth + 1) ∷ []) (as_quantified false)
+      → Production bytes limit (operand depth) K.WordExists (binders Variable ∷ sign K.Dot ∷ formula (depth + 1) ∷ []) (as_quantified false)
   -- atom = Lower "(" term { "," term } ")" | Lower [ cmp term ] | Upper [ ":" Lower ] cmp term
   an_atom : {depth : ℕ} → Production bytes limit (operand depth) K.Lower (atom_rest ∷ []) (as_atom bytes)
   a_comparison : {depth : ℕ}
-    → Production bytes limit (operand depth) K.Upper (type_mark Variable ∷ comparison ∷ term ∷ []) (as_comparison bytes)
+      → Production bytes limit (operand depth) K.Upper (type_mark Variable ∷ comparison ∷ term ∷ []) (as_comparison bytes)
   some_terms : Production bytes limit atom_rest K.OpenRound (terms ∷ sign K.CloseRound ∷ []) as_applied
   -- cmp = "=" | "~=" | "<" | "<="
   same_as : Production bytes limit atom_rest K.Equal (term ∷ []) (as_compared O.Equal)
@@ -154,39 +154,39 @@ pub data Rewriting : Symbol → Lookahead → List Symbol → (List Value → Li
   no_label : Rewriting label (unless (K.OpenSquare ∷ [])) [] (λ vs. v_mark None ∷ vs)
   no_binders : {class : Class} → Rewriting (bracketed class) (unless (K.OpenRound ∷ [])) [] (λ vs. v_binders [] ∷ vs)
   some_of_class : {class : Class}
-    → Rewriting (binders class) (unless []) (binder class ∷ more_binders class ∷ []) as_binders
+      → Rewriting (binders class) (unless []) (binder class ∷ more_binders class ∷ []) as_binders
   last_binder : {class : Class} → Rewriting (more_binders class) (unless (K.Comma ∷ [])) [] (λ vs. v_binders [] ∷ vs)
   no_mark : Rewriting (type_mark Variable) (unless (K.Colon ∷ [])) [] (λ vs. v_mark None ∷ vs)
   no_statement : {depth : ℕ}
-    → Rewriting (statements depth) (unless (K.WordRequire ∷ K.WordAssume ∷ K.Lower ∷ K.WordIf ∷ K.WordLocal ∷ K.LeftOut ∷ [])) [] (λ vs. v_statements Tree.no_statements ∷ vs)
+      → Rewriting (statements depth) (unless (K.WordRequire ∷ K.WordAssume ∷ K.Lower ∷ K.WordIf ∷ K.WordLocal ∷ K.LeftOut ∷ [])) [] (λ vs. v_statements Tree.no_statements ∷ vs)
   last_statement : {depth : ℕ}
-    → Rewriting (after_statement depth) (unless (K.Semicolon ∷ [])) [] (λ vs. v_statements Tree.no_statements ∷ vs)
+      → Rewriting (after_statement depth) (unless (K.Semicolon ∷ [])) [] (λ vs. v_statements Tree.no_statements ∷ vs)
   no_semicolon : {depth : ℕ}
-    → Rewriting (after_block depth) (unless (K.Semicolon ∷ [])) (statements depth ∷ []) (λ vs. vs)
+      → Rewriting (after_block depth) (unless (K.Semicolon ∷ [])) (statements depth ∷ []) (λ vs. vs)
   the_condition : {depth : ℕ}
-    → Rewriting (condition depth) (unless []) (formula depth ∷ block depth ∷ otherwise depth ∷ []) as_conditional
+      → Rewriting (condition depth) (unless []) (formula depth ∷ block depth ∷ otherwise depth ∷ []) as_conditional
   no_alternative : {depth : ℕ}
-    → Rewriting (otherwise depth) (unless (K.WordElse ∷ [])) [] (λ vs. v_statements Tree.no_statements ∷ vs)
+      → Rewriting (otherwise depth) (unless (K.WordElse ∷ [])) [] (λ vs. v_statements Tree.no_statements ∷ vs)
   a_last_alternative : {depth : ℕ}
-    → Rewriting (alternative depth) (unless (K.WordIf ∷ [])) (block depth ∷ []) (λ vs. vs)
+      → Rewriting (alternative depth) (unless (K.WordIf ∷ [])) (block depth ∷ []) (λ vs. vs)
   no_targets : Rewriting targets (unless (K.OpenRound ∷ [])) [] (λ vs. v_terms [] ∷ vs)
   a_right_side : {depth : ℕ} → Rewriting (right_side depth) (unless (K.Asterisk ∷ [])) (formula depth ∷ []) (λ vs. vs)
   a_formula : {depth : ℕ}
-    → Rewriting (formula depth) (unless []) (implication depth ∷ more_equivalents depth ∷ []) (as_chain Tree.equivalence)
+      → Rewriting (formula depth) (unless []) (implication depth ∷ more_equivalents depth ∷ []) (as_chain Tree.equivalence)
   last_equivalent : {depth : ℕ}
-    → Rewriting (more_equivalents depth) (unless (K.DoubleArrow ∷ [])) [] (λ vs. v_formulas Tree.no_formulas ∷ vs)
+      → Rewriting (more_equivalents depth) (unless (K.DoubleArrow ∷ [])) [] (λ vs. v_formulas Tree.no_formulas ∷ vs)
   an_implication : {depth : ℕ}
-    → Rewriting (implication depth) (unless []) (disjunction depth ∷ consequence depth ∷ []) as_implication
+      → Rewriting (implication depth) (unless []) (disjunction depth ∷ consequence depth ∷ []) as_implication
   no_consequence : {depth : ℕ}
-    → Rewriting (consequence depth) (unless (K.Arrow ∷ [])) [] (λ vs. v_consequence None ∷ vs)
+      → Rewriting (consequence depth) (unless (K.Arrow ∷ [])) [] (λ vs. v_consequence None ∷ vs)
   a_disjunction : {depth : ℕ}
-    → Rewriting (disjunction depth) (unless []) (conjunction depth ∷ more_disjuncts depth ∷ []) (as_chain Tree.disjunction)
+      → Rewriting (disjunction depth) (unless []) (conjunction depth ∷ more_disjuncts depth ∷ []) (as_chain Tree.disjunction)
   last_disjunct : {depth : ℕ}
-    → Rewriting (more_disjuncts depth) (unless (K.Bar ∷ [])) [] (λ vs. v_formulas Tree.no_formulas ∷ vs)
+      → Rewriting (more_disjuncts depth) (unless (K.Bar ∷ [])) [] (λ vs. v_formulas Tree.no_formulas ∷ vs)
   a_conjunction : {depth : ℕ}
-    → Rewriting (conjunction depth) (unless []) (operand depth ∷ more_conjuncts depth ∷ []) (as_chain Tree.conjunction)
+      → Rewriting (conjunction depth) (unless []) (operand depth ∷ more_conjuncts depth ∷ []) (as_chain Tree.conjunction)
   last_conjunct : {depth : ℕ}
-    → Rewriting (more_conjuncts depth) (unless (K.Ampersand ∷ [])) [] (λ vs. v_formulas Tree.no_formulas ∷ vs)
+      → Rewriting (more_conjuncts depth) (unless (K.Ampersand ∷ [])) [] (λ vs. v_formulas Tree.no_formulas ∷ vs)
   a_bare_atom : Rewriting atom_rest (unless (K.OpenRound ∷ K.Equal ∷ K.NotEqual ∷ K.Less ∷ K.LessOrEqual ∷ [])) [] (λ vs. v_rest bare ∷ vs)
   the_terms_of : Rewriting terms (unless []) (term ∷ more_terms ∷ []) as_terms
   last_term : Rewriting more_terms (unless (K.Comma ∷ [])) [] (λ vs. v_terms [] ∷ vs)
@@ -220,11 +220,11 @@ pub record Setting : Type 0 where
 pub data Derives (s : Setting) : List Symbol → List Token → List Value → Type 0 where
   stop : {stack : List Symbol} {vs : List Value} → MayStop s.end stack vs → Derives s stack [] vs
   take : {x : Symbol} {body stack : List Symbol} {effect : Effect} {t : Token} {ts : List Token} {vs : List Value}
-    → Production s.bytes s.limit x t.kind body effect
-    → Derives s (body ++ stack) ts vs
-    → Derives s (x ∷ stack) (t ∷ ts) (effect t vs)
+      → Production s.bytes s.limit x t.kind body effect
+      → Derives s (body ++ stack) ts vs
+      → Derives s (x ∷ stack) (t ∷ ts) (effect t vs)
   skip : {x : Symbol} {ahead : Lookahead} {body stack : List Symbol} {effect : List Value → List Value}
-    {ts : List Token} {vs : List Value}
-    → Rewriting x ahead body effect → Sees ahead ts
-    → Derives s (body ++ stack) ts vs
-    → Derives s (x ∷ stack) ts (effect vs)
+      {ts : List Token} {vs : List Value}
+      → Rewriting x ahead body effect → Sees ahead ts
+      → Derives s (body ++ stack) ts vs
+      → Derives s (x ∷ stack) ts (effect vs)

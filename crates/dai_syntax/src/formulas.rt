@@ -24,10 +24,11 @@ pub fn formula(cursor: &mut Cursor, depth: u32) -> Result<Form, SyntaxError>
     ensures read { IfOk result (λ f. Reads (formula depth) cursor.old (v_formula (formula_of f)) cursor.new) }
     ensures failed { IfErr result (FailsAt (formula depth) cursor.old) }
 {
-    let first = implication(cursor, depth)?;
+    let read = implication(cursor, depth);
     if !cursor.take(Kind::DoubleArrow) {
-        return Ok(first);
+        return read;
     }
+    let first = read?;
     let second = implication(cursor, depth)?;
     let mut parts = pair(cursor.alloc, first, second)?;
     while cursor.take(Kind::DoubleArrow) {
@@ -43,10 +44,11 @@ fn implication(cursor: &mut Cursor, depth: u32) -> Result<Form, SyntaxError>
     ensures read { IfOk result (λ f. Reads (implication depth) cursor.old (v_formula (formula_of f)) cursor.new) }
     ensures failed { IfErr result (FailsAt (implication depth) cursor.old) }
 {
-    let left = disjunction(cursor, depth)?;
+    let read = disjunction(cursor, depth);
     if !cursor.is_at(Kind::Arrow) {
-        return Ok(left);
+        return read;
     }
+    let left = read?;
     if depth >= MOST_LEVELS {
         return Err(cursor.too_deep());
     }
@@ -64,10 +66,11 @@ fn disjunction(cursor: &mut Cursor, depth: u32) -> Result<Form, SyntaxError>
     ensures read { IfOk result (λ f. Reads (disjunction depth) cursor.old (v_formula (formula_of f)) cursor.new) }
     ensures failed { IfErr result (FailsAt (disjunction depth) cursor.old) }
 {
-    let first = conjunction(cursor, depth)?;
+    let read = conjunction(cursor, depth);
     if !cursor.take(Kind::Bar) {
-        return Ok(first);
+        return read;
     }
+    let first = read?;
     let second = conjunction(cursor, depth)?;
     let mut parts = pair(cursor.alloc, first, second)?;
     while cursor.take(Kind::Bar) {
@@ -82,10 +85,11 @@ fn conjunction(cursor: &mut Cursor, depth: u32) -> Result<Form, SyntaxError>
     ensures read { IfOk result (λ f. Reads (conjunction depth) cursor.old (v_formula (formula_of f)) cursor.new) }
     ensures failed { IfErr result (FailsAt (conjunction depth) cursor.old) }
 {
-    let first = operand(cursor, depth)?;
+    let read = operand(cursor, depth);
     if !cursor.take(Kind::Ampersand) {
-        return Ok(first);
+        return read;
     }
+    let first = read?;
     let second = operand(cursor, depth)?;
     let mut parts = pair(cursor.alloc, first, second)?;
     while cursor.take(Kind::Ampersand) {
