@@ -1,11 +1,11 @@
 #!/usr/bin/env python3
 """Judge random typed files a second time, by a naive reading of the rules of names, types, quantifiers and limits.
 
-This judge has a lexer and a parser of its own (`second_parser.py`), lists every fault of a file and picks the one of the least place and
-then of the least number. It shares nothing with the program. Random files with types, faulty in zero to three
-places, go through both. Where this judge finds a fault, the program has to refuse the file with exactly that line on
-standard error and status 2; where it finds none, the program may tell no fault of a place except `1:1: E20`, which
-says that the file doesn't run yet.
+This judge has a lexer and a parser of its own (`second_parser.py`), lists every fault of a file and picks the one of
+the least place and then of the least number. It shares nothing with the program. Random files with types, faulty in
+zero to three places (`random_files.py`), go through both. Where this judge finds a fault, the program has to refuse
+the file with exactly that line on standard error and status 2; where it finds none, the program may tell no fault of
+a place except `1:1: E20`, which says that the file doesn't run yet.
 
     second_judge.py [--program PATH] [--files N] [--seed S] [--keep FOLDER]
     second_judge.py --judge FILE

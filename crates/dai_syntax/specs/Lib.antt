@@ -5,6 +5,7 @@ pub mod Symbols
 pub mod Values
 pub mod Grammar
 pub mod Viable
+pub mod Within
 pub mod Reading
 pub mod Endings
 pub mod Effects
