@@ -1,5 +1,5 @@
 -- The places of the trees of a file are within its bytes: an induction over derivations, whose values hold trees.
-use Rattle.std.proofs.Common.{ℕ, suc, ◌≡◌, ◌≤◌, ◌<◌, List, [], ◌∷◌, Option, None, Some, length, subst, sym, arith}
+use Rattle.std.proofs.Common.{ℕ, suc, ◌≤◌, List, [], ◌∷◌, Option, None, Some, length, subst, sym, arith}
 use Rattle.std.specs.List.{All}
 use Rattle.dai_lex.specs.declared.token.Kind.{Kind}
 use Rattle.dai_lex.specs.declared.token.Token.{Token}

@@ -4,6 +4,7 @@ ghost use Rattle.dai_syntax.specs.Symbols.{formula, implication, disjunction, co
 ghost use Rattle.dai_syntax.specs.Tree as Tree;
 ghost use Rattle.dai_syntax.specs.Trees.{formula_of};
 ghost use Rattle.dai_syntax.specs.Endings.{quantifier};
+ghost use Rattle.dai_syntax.specs.Viable.{most_levels};
 ghost use Rattle.dai_syntax.specs.Reading.{Reads, FailsAt, kind_ahead};
 
 use crate::binders::{Class, binders, type_mark};
@@ -20,7 +21,7 @@ pub const MOST_LEVELS: u32 = 200;
 /// A formula, where so many constructs are open.
 #[cycle(formula)]
 pub fn formula(cursor: &mut Cursor, depth: u32) -> Result<Form, SyntaxError>
-    requires { depth ≤ 200 }
+    requires { depth ≤ most_levels }
     ensures read { IfOk result (λ f. Reads (formula depth) cursor.old (v_formula (formula_of f)) cursor.new) }
     ensures failed { IfErr result (FailsAt (formula depth) cursor.old) }
 {
@@ -40,7 +41,7 @@ pub fn formula(cursor: &mut Cursor, depth: u32) -> Result<Form, SyntaxError>
 /// `->` groups to the right.
 #[cycle(formula)]
 fn implication(cursor: &mut Cursor, depth: u32) -> Result<Form, SyntaxError>
-    requires { depth ≤ 200 }
+    requires { depth ≤ most_levels }
     ensures read { IfOk result (λ f. Reads (implication depth) cursor.old (v_formula (formula_of f)) cursor.new) }
     ensures failed { IfErr result (FailsAt (implication depth) cursor.old) }
 {
@@ -62,7 +63,7 @@ fn implication(cursor: &mut Cursor, depth: u32) -> Result<Form, SyntaxError>
 
 #[cycle(formula)]
 fn disjunction(cursor: &mut Cursor, depth: u32) -> Result<Form, SyntaxError>
-    requires { depth ≤ 200 }
+    requires { depth ≤ most_levels }
     ensures read { IfOk result (λ f. Reads (disjunction depth) cursor.old (v_formula (formula_of f)) cursor.new) }
     ensures failed { IfErr result (FailsAt (disjunction depth) cursor.old) }
 {
@@ -81,7 +82,7 @@ fn disjunction(cursor: &mut Cursor, depth: u32) -> Result<Form, SyntaxError>
 
 #[cycle(formula)]
 fn conjunction(cursor: &mut Cursor, depth: u32) -> Result<Form, SyntaxError>
-    requires { depth ≤ 200 }
+    requires { depth ≤ most_levels }
     ensures read { IfOk result (λ f. Reads (conjunction depth) cursor.old (v_formula (formula_of f)) cursor.new) }
     ensures failed { IfErr result (FailsAt (conjunction depth) cursor.old) }
 {
@@ -100,7 +101,7 @@ fn conjunction(cursor: &mut Cursor, depth: u32) -> Result<Form, SyntaxError>
 
 #[cycle(formula)]
 fn operand(cursor: &mut Cursor, depth: u32) -> Result<Form, SyntaxError>
-    requires { depth ≤ 200 }
+    requires { depth ≤ most_levels }
     ensures read { IfOk result (λ f. Reads (operand depth) cursor.old (v_formula (formula_of f)) cursor.new) }
     ensures failed { IfErr result (FailsAt (operand depth) cursor.old) }
 {
@@ -128,7 +129,7 @@ fn operand(cursor: &mut Cursor, depth: u32) -> Result<Form, SyntaxError>
 
 #[cycle(formula)]
 fn negation(cursor: &mut Cursor, depth: u32) -> Result<Form, SyntaxError>
-    requires within { depth ≤ 200 }
+    requires within { depth ≤ most_levels }
     requires ahead { kind_ahead cursor.old.rest.now ≡ Some Kind.Tilde }
     ensures read { IfOk result (λ f. Reads (operand depth) cursor.old (v_formula (formula_of f)) cursor.new) }
     ensures failed { IfErr result (FailsAt (operand depth) cursor.old) }
@@ -145,7 +146,7 @@ fn negation(cursor: &mut Cursor, depth: u32) -> Result<Form, SyntaxError>
 
 #[cycle(formula)]
 fn bracket(cursor: &mut Cursor, depth: u32) -> Result<Form, SyntaxError>
-    requires within { depth ≤ 200 }
+    requires within { depth ≤ most_levels }
     requires ahead { kind_ahead cursor.old.rest.now ≡ Some Kind.OpenRound }
     ensures read { IfOk result (λ f. Reads (operand depth) cursor.old (v_formula (formula_of f)) cursor.new) }
     ensures failed { IfErr result (FailsAt (operand depth) cursor.old) }
@@ -167,7 +168,7 @@ fn quantified(
     kind: Kind,
     universal: bool,
 ) -> Result<Form, SyntaxError>
-    requires within { depth ≤ 200 }
+    requires within { depth ≤ most_levels }
     requires ahead { kind_ahead cursor.old.rest.now ≡ Some kind }
     requires word { kind ≡ quantifier universal }
     ensures read { IfOk result (λ f. Reads (operand depth) cursor.old (v_formula (formula_of f)) cursor.new) }
