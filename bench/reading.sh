@@ -1,11 +1,13 @@
 #!/usr/bin/env bash
-# How long `infer` takes to read and check a file of about 1 MiB, and the ratio to the same lines as comments, of
-# which the program reads the bytes and looks for the end of each line.
+# How long `infer` takes to read and check a file of 1 MiB, and the ratio to the same lines as comments, of which the
+# program reads the bytes and looks for the end of each line. The time of a start, measured on an empty file, is taken
+# off both sides.
 #
-# The file has 64 actions and 64 invariants over ten flags, all connectives, and one chain of 40,000 operands. Its
-# last invariant names no relation, so the file is refused after all of it was read and checked, and no time goes
-# into clauses. Each time is the best of five in processor time, with the start of the program included. The times
-# on an empty file are those of the starts alone.
+#     reading.sh [PROGRAM]
+#
+# The file has types, relations, individuals, 64 actions and 64 invariants with long names. Its last invariant names
+# nothing that is declared, so the file is refused after all of it was read and checked, and no time goes into
+# clauses. Each time is the best of fifteen in processor time.
 set -eu
 here=$(cd "$(dirname "$0")/.." && pwd)
 work=$(mktemp -d)
@@ -13,36 +15,65 @@ trap 'rm -rf "$work"' EXIT
 
 large() {
   python3 <<'PY'
-names = [f"flag{i}" for i in range(10)]
+import random
 
-def literal(k):
-    return ("~" if k % 3 == 0 else "") + names[k * 7 % 10]
+pick = random.Random(1).choice
+types = [f"cache_line_identifier_{i}" for i in range(8)]
+relations = {f"directory_entry_is_valid_{i:02d}": [types[i * k % 8] for k in range(1, 2 + i % 3)] for i in range(48)}
+individuals = {f"distinguished_owner_{i:02d}": types[i % 8] for i in range(16)}
+variables = {f"Any_line_{i}": sort for i, sort in enumerate(types)}
+params = {f"requesting_agent_{i}": sort for i, sort in enumerate(types[:6])}
 
-def term(k):
-    a, b, c = literal(k), literal(k + 1), literal(k + 2)
-    return [f"({a} | {b})", f"({a} -> {b} & {c})", f"~({a} <-> {b})", a][k % 4]
 
-for name in names:
-    print("relation", name)
-print("after init {", "; ".join(f"{n} := false" for n in names), "}")
+def term(sort, tables):
+    return pick([name for table in tables for name, own in table.items() if own == sort])
+
+
+def applied(tables):
+    name, sorts = pick(list(relations.items()))
+    return f"{name}({', '.join(term(sort, tables) for sort in sorts)})"
+
+
+def compared(tables):
+    sort = pick(types)
+    return f"{term(sort, tables)} {pick(['=', '~='])} {term(sort, tables)}"
+
+
+def part(*tables):
+    return pick([
+        lambda: applied(tables),
+        lambda: f"~{applied(tables)}",
+        lambda: f"({applied(tables)} | {compared(tables)})",
+        lambda: f"({applied(tables)} -> {applied(tables)} & {applied(tables)})",
+    ])()
+
+
+def update(*tables):
+    return f"{applied(tables)} := {part(*tables)}"
+
+
+lines = [f"type {name}" for name in types]
+for name, sorts in relations.items():
+    lines.append(f"relation {name}({', '.join(f'X{i}:{sort}' for i, sort in enumerate(sorts))})")
+lines += [f"individual {name} : {sort}" for name, sort in individuals.items()]
+lines.append("after init { " + "; ".join(update(individuals) for _ in range(40)) + " }")
 for i in range(64):
-    print(f"# Action {i} of 64.")
-    print(f"export action act{i} = {{")
-    print("  require", " | ".join(term(i + k) for k in range(60)) + ";")
-    for k in range(30):
-        n = names[(i + k) % 10]
-        print(f"  if {term(i + k)} & {literal(k)} {{ {n} := {term(k)} }}")
-        print(f"  else if {literal(i + k)} {{ {n} := true; {names[k % 10]} := {n} }} else {{ assume {n} | ~{n} }}")
-    print("}")
-for i in range(62):
-    print(f"invariant [inv{i}]")
-    print("    " + "\n    & ".join(term(i + k) for k in range(262)))
-print("conjecture true" + " & true" * 40000)
-print("invariant nowhere")
+    given = ", ".join(f"{name}:{sort}" for name, sort in params.items())
+    lines += [f"# Action {i} of 64.", f"export action perform_the_request_{i}({given}) = {{"]
+    for _ in range(12):
+        lines.append(f"  require {part(params, individuals)} | {part(params, individuals)};")
+        lines.append(f"  if {part(params, individuals)} {{ {update(params, individuals)} }}")
+        lines.append(f"  else {{ {update(params, individuals)}; {update(params, individuals)} }}")
+    lines.append("}")
+for i in range(63):
+    lines.append(f"invariant [no_two_owners_of_a_line_{i}]")
+    lines.append("    " + "\n    & ".join(part(variables, individuals) for _ in range(25)))
+lines.append("invariant nowhere")
+print("\n".join(lines))
 PY
 }
 
-# The best of five runs in seconds of processor time. The command has to end with the status.
+# The best of fifteen runs in seconds of processor time. The command has to end with the status.
 seconds() {
   python3 - "$@" <<'PY'
 import resource, subprocess, sys
@@ -52,7 +83,7 @@ def spent():
     return used.ru_utime + used.ru_stime
 
 best = 1e9
-for _ in range(5):
+for _ in range(15):
     begun = spent()
     done = subprocess.run(sys.argv[2:], stdout=subprocess.DEVNULL, stderr=subprocess.DEVNULL)
     best = min(best, spent() - begun)
@@ -63,8 +94,12 @@ PY
 }
 
 # The script `distai` builds the program and looks for newer sources each time, so the program itself is timed.
-"$here/distai" infer /dev/null > /dev/null
-program=$here/crates/distai/out/distai
+if [ $# -gt 0 ]; then
+  program=$1
+else
+  "$here/distai" infer /dev/null > /dev/null
+  program=$here/crates/distai/out/distai
+fi
 
 large > "$work/large.ivy"
 sed 's/^/#/' "$work/large.ivy" > "$work/comments.ivy"
@@ -76,10 +111,10 @@ if [ "$bytes" -gt 1048576 ]; then
   exit 1
 fi
 
-# Only a refusal of the last line, or of the whole file at its first byte, says that all of it was read.
+# Only a refusal of the last line says that all of it was read and checked.
 told=$("$program" infer "$work/large.ivy" 2>&1 || true)
 case "$told" in
-  "$work/large.ivy:1:1: E20 "* | "$work/large.ivy:$lines:"*) ;;
+  "$work/large.ivy:$lines:"*) ;;
   *)
     echo "the file was not read whole: $told" >&2
     exit 1
@@ -94,11 +129,10 @@ python3 - "$bytes" "$lines" "$reading" "$start" "$counting" <<'PY'
 import sys
 size, lines = int(sys.argv[1]), int(sys.argv[2])
 reading, start, counting = map(float, sys.argv[3:])
+work, yardstick = reading - start, counting - start
 print(f"file: {size} bytes, {lines} lines")
-print(f"infer: {reading * 1e3:.2f} ms (on an empty file {start * 1e3:.2f} ms)")
-print(f"the same lines as comments: {counting * 1e3:.2f} ms")
-print(f"ratio: {reading / counting:.1f} (goal: at most 40)")
-print(f"ratio to the start on an empty file: {reading / start:.1f}")
-rate = size / max(reading - start, 1e-6) / 1e6
-print(f"after the start: {rate:.1f} MB/s")
+print(f"start, on an empty file: {start * 1e3:.2f} ms, taken off below")
+print(f"infer: {work * 1e3:.2f} ms, {size / work / 1e6:.1f} MB/s")
+print(f"the same lines as comments: {yardstick * 1e3:.2f} ms")
+print(f"ratio: {work / yardstick:.1f} (goal: at most 40, then 10)")
 PY

@@ -4,6 +4,8 @@ use Rattle.std.specs.declared.alloc.Global.{Global}
 use Rattle.dai_syntax.specs.Tree as Tree
 use Rattle.dai_syntax.specs.Trees.{formula_of, formulas_of, formulas_of_row, statement_of, statements_of, statements_of_row}
 use Rattle.dai_syntax.specs.declared.tree.Binder.{Binder}
+use Rattle.dai_syntax.specs.declared.tree.Arg.{Arg}
+use Rattle.dai_syntax.specs.declared.tree.Op.{Op}
 use Rattle.dai_syntax.specs.declared.tree.Form.{Form, Row_of-Form, end_of-Form, more_of-Form, items-the_row-Form}
 use Rattle.dai_syntax.specs.declared.tree.Form.TheBlock.{hidden-the_row-Form-0, items_hidden-the_row-Form-0}
 use Rattle.dai_syntax.specs.declared.tree.Form as Written
@@ -33,6 +35,9 @@ tree_of-Any form parts items e is = ap formula_of e ∙ ap Tree.disjunction (wri
 
 pub tree_of-Same : (form : Form) (parts : Vec Form Global) (items : List Form) → form ≡ Written.Same parts → items ≡ parts.items → formula_of form ≡ Tree.equivalence (formulas_of items)
 tree_of-Same form parts items e is = ap formula_of e ∙ ap Tree.equivalence (written_hidden parts ∙ ap formulas_of (sym is))
+
+pub tree_of-Compare : (form : Form) (left right : Box Arg Global) (op : Op) (a b : Arg) → form ≡ Written.Compare left op right → a ≡ left.value → b ≡ right.value → formula_of form ≡ Tree.comparison a op b
+tree_of-Compare form left right op a b e x y = ap formula_of e ∙ (λ i. Tree.comparison (sym x i) op (sym y i))
 
 pub tree_of-Implies : (form : Form) (left right : Box Form Global) (l r : Form) → form ≡ Written.Implies left right → l ≡ left.value → r ≡ right.value → formula_of form ≡ Tree.implication (formula_of l) (formula_of r)
 tree_of-Implies form left right l r e x y = ap formula_of e ∙ (λ i. Tree.implication (formula_of (sym x i)) (formula_of (sym y i)))

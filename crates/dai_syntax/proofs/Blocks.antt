@@ -9,7 +9,8 @@ use Rattle.dai_syntax.specs.declared.error.SyntaxError.TheVariants.{LeftOut}
 use Rattle.dai_syntax.specs.Tree as Tree
 use Rattle.dai_syntax.specs.Trees.{statement_of, statements_of}
 use Rattle.dai_syntax.specs.Symbols.{Symbol, Value, formula, statements, after_statement, after_block, right_side, v_statements, the_formula, the_statements, part1, part2, after2}
-use Rattle.dai_syntax.specs.Grammar.{Effect, Production, a_requirement, an_assumption, an_assignment, a_conditional, some_locals, a_semicolon, a_free_semicolon, a_right_side, no_statement, no_semicolon, last_statement, unless, Sees, Derives, stop, take, skip, anywhere, left_out, left_out_statement, left_out_right_side}
+use Rattle.dai_syntax.specs.Values.{Effect}
+use Rattle.dai_syntax.specs.Grammar.{Production, a_requirement, an_assumption, an_assignment, a_conditional, some_locals, a_semicolon, a_free_semicolon, a_right_side, no_statement, no_semicolon, last_statement, unless, Sees, Derives, stop, take, skip, anywhere, left_out, left_out_statement, left_out_right_side}
 use Rattle.dai_syntax.specs.Reading.{setting, IsStuck, Leaves, Steps, Takes, kind_ahead, place_ahead}
 use Rattle.dai_syntax.specs.Effects.{follows, statement_effect, ReadsStatement, IsStatement}
 use Rattle.dai_syntax.proofs.Stuck.{sees_none}

@@ -3,7 +3,8 @@ use Rattle.std.proofs.Common.{ℕ, ◌≡◌, List, [], ◌∷◌, refl}
 use Rattle.dai_lex.specs.declared.token.Kind.{Kind}
 use Rattle.dai_lex.specs.declared.token.Token.{Token}
 use Rattle.dai_syntax.specs.Symbols.{Symbol, Value}
-use Rattle.dai_syntax.specs.Grammar.{Effect, Production, a_sign, a_name, a_type, an_ordered_type, a_relation, an_individual, an_axiom, an_init, an_action, an_export, an_exported_action, an_exported_name, the_action, an_invariant, a_conjecture, a_label, a_small_label, a_capital_label, a_number_label, some_binders, further_binders, a_named_argument, a_variable_argument, a_named_parameter, a_bound_variable, a_mark, a_block, a_requirement, an_assumption, an_assignment, a_conditional, some_locals, a_semicolon, a_free_semicolon, an_alternative, a_further_condition, some_targets, an_equivalent, a_consequence, a_disjunct, a_conjunct, a_negation, a_truth, a_falsehood, a_bracket, a_universal, an_existential, an_atom, a_comparison, some_terms, same_as, other_than, less_than, at_most, an_equal_sign, an_unequal_sign, a_less_sign, an_at_most_sign, a_symbol, a_term_variable, further_terms, Lookahead, nothing, another, unless, IsNoneOf, Sees, Rewriting, no_declarations, further_declarations, no_label, no_binders, some_of_class, last_binder, no_mark, no_statement, last_statement, no_semicolon, the_condition, no_alternative, a_last_alternative, no_targets, a_right_side, a_formula, last_equivalent, an_implication, no_consequence, a_disjunction, last_disjunct, a_conjunction, last_conjunct, a_bare_atom, the_terms_of, last_term}
+use Rattle.dai_syntax.specs.Values.{Effect}
+use Rattle.dai_syntax.specs.Grammar.{Production, a_sign, a_name, a_type, an_ordered_type, a_relation, an_individual, an_axiom, an_init, an_action, an_export, an_exported_action, an_exported_name, the_action, an_invariant, a_conjecture, a_label, a_small_label, a_capital_label, a_number_label, some_binders, further_binders, a_named_argument, a_variable_argument, a_named_parameter, a_bound_variable, a_mark, a_block, a_requirement, an_assumption, an_assignment, a_conditional, some_locals, a_semicolon, a_free_semicolon, an_alternative, a_further_condition, some_targets, an_equivalent, a_consequence, a_disjunct, a_conjunct, a_negation, a_truth, a_falsehood, a_bracket, a_universal, an_existential, an_atom, a_comparison, some_terms, same_as, other_than, less_than, at_most, an_equal_sign, an_unequal_sign, a_less_sign, an_at_most_sign, a_symbol, a_term_variable, further_terms, Lookahead, nothing, another, unless, IsNoneOf, Sees, Rewriting, no_declarations, further_declarations, no_label, no_binders, some_of_class, last_binder, no_mark, no_statement, last_statement, no_semicolon, the_condition, no_alternative, a_last_alternative, no_targets, a_right_side, a_formula, last_equivalent, an_implication, no_consequence, a_disjunction, last_disjunct, a_conjunction, last_conjunct, a_bare_atom, the_terms_of, last_term}
 
 -- the parts of a production are those of the other
 pub record AreSame {A : Type 0} (body other : List Symbol) (effect effect' : A) : Type 0 where

@@ -4,7 +4,8 @@ use Rattle.dai_lex.specs.declared.token.Kind.TheVariants as K
 use Rattle.dai_syntax.specs.declared.binders.Class.TheVariants as C
 use Rattle.dai_syntax.specs.Tree as Tree
 use Rattle.dai_syntax.specs.Symbols.{Symbol, sign, binders, block, statements, otherwise, formula, consequence, operand, v_formula, the_binders, the_formula, part1, part2, after2}
-use Rattle.dai_syntax.specs.Grammar.{Effect, Production, a_consequence, a_negation, a_bracket, a_universal, an_existential, a_block, a_conditional, some_locals, an_alternative}
+use Rattle.dai_syntax.specs.Values.{Effect}
+use Rattle.dai_syntax.specs.Grammar.{Production, a_consequence, a_negation, a_bracket, a_universal, an_existential, a_block, a_conditional, some_locals, an_alternative}
 use Rattle.dai_syntax.specs.Endings.{quantifier}
 
 pub deep_consequence : {bytes : List ℕ} {depth : ℕ} {body : List Symbol} {f : Effect} → 200 ≤ depth → Production bytes 200 (consequence depth) K.Arrow body f → ⊥

@@ -5,7 +5,8 @@ use Rattle.dai_lex.specs.declared.token.Token.{Token}
 use Rattle.dai_syntax.specs.declared.error.SyntaxError.{SyntaxError}
 use Rattle.dai_syntax.specs.declared.error.SyntaxError.TheVariants.{Unexpected, Deep, Spent}
 use Rattle.dai_syntax.specs.Symbols.{Symbol, Value}
-use Rattle.dai_syntax.specs.Grammar.{Effect, Production, Lookahead, unless, IsNoneOf, Sees, Rewriting, no_statement, a_right_side, End, whole, anywhere, left_out, IsLeftOut, left_out_declaration, left_out_statement, left_out_right_side, MayStop, Setting, Derives, stop, take, skip}
+use Rattle.dai_syntax.specs.Values.{Effect}
+use Rattle.dai_syntax.specs.Grammar.{Production, Lookahead, unless, IsNoneOf, Sees, Rewriting, no_statement, a_right_side, End, whole, anywhere, left_out, IsLeftOut, left_out_declaration, left_out_statement, left_out_right_side, MayStop, Setting, Derives, stop, take, skip}
 use Rattle.dai_syntax.specs.Reading.{IsFront, all_hidden, one_shown, MayHide, setting, Leads, IsStuck, Fails, kind_ahead, place_ahead}
 use Rattle.dai_syntax.proofs.Choice.{only_production, only_rewriting, not_both}
 

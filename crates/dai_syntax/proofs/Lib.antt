@@ -9,3 +9,4 @@ pub mod Deep
 pub mod Blocks
 pub mod Files
 pub mod Fronts
+mod Within

@@ -8,7 +8,8 @@ use Rattle.dai_syntax.specs.declared.tree.Name.{Name}
 use Rattle.dai_syntax.specs.declared.error.SyntaxError.{SyntaxError}
 use Rattle.dai_syntax.specs.declared.error.SyntaxError.TheVariants.{Spent}
 use Rattle.dai_syntax.specs.Symbols.{Symbol, Value}
-use Rattle.dai_syntax.specs.Grammar.{Effect, Production, unless, Sees, Rewriting}
+use Rattle.dai_syntax.specs.Values.{Effect}
+use Rattle.dai_syntax.specs.Grammar.{Production, unless, Sees, Rewriting}
 use Rattle.dai_syntax.specs.Reading.{Leads, ReadsTokens, Reads, Leaves, Passes, Steps, Takes, IsWord, IsStuck, Fails, FailsAt, place_ahead}
 use Rattle.dai_syntax.proofs.Leading.{leads_on, leads_then, leads_taking, leads_skipping, fails_here, fails_after, fails_spent}
 

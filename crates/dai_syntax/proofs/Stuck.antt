@@ -6,7 +6,8 @@ use Rattle.dai_lex.specs.declared.token.Token.{Token}
 use Rattle.dai_syntax.specs.declared.binders.Class.TheVariants.{Argument, Parameter, Variable}
 use Rattle.dai_syntax.specs.declared.error.SyntaxError.TheVariants.{Unexpected}
 use Rattle.dai_syntax.specs.Symbols.{Symbol, sign, name, declaration, exported, action_parts, label_word, binder, type_mark, block, operand, comparison, term}
-use Rattle.dai_syntax.specs.Grammar.{Effect, Production, a_sign, a_name, a_type, an_ordered_type, a_relation, an_individual, an_axiom, an_init, an_action, an_export, an_exported_action, an_exported_name, the_action, an_invariant, a_conjecture, a_small_label, a_capital_label, a_number_label, a_named_argument, a_variable_argument, a_named_parameter, a_bound_variable, a_mark, a_block, a_negation, a_truth, a_falsehood, a_bracket, a_universal, an_existential, an_atom, a_comparison, an_equal_sign, an_unequal_sign, a_less_sign, an_at_most_sign, a_symbol, a_term_variable, unless, IsNoneOf, Sees, IsLeftOut}
+use Rattle.dai_syntax.specs.Values.{Effect}
+use Rattle.dai_syntax.specs.Grammar.{Production, a_sign, a_name, a_type, an_ordered_type, a_relation, an_individual, an_axiom, an_init, an_action, an_export, an_exported_action, an_exported_name, the_action, an_invariant, a_conjecture, a_small_label, a_capital_label, a_number_label, a_named_argument, a_variable_argument, a_named_parameter, a_bound_variable, a_mark, a_block, a_negation, a_truth, a_falsehood, a_bracket, a_universal, an_existential, an_atom, a_comparison, an_equal_sign, an_unequal_sign, a_less_sign, an_at_most_sign, a_symbol, a_term_variable, unless, IsNoneOf, Sees, IsLeftOut}
 use Rattle.dai_syntax.specs.Reading.{IsStuck, kind_ahead, place_ahead}
 use Rattle.dai_syntax.proofs.Leading.{stuck_here}
 

@@ -2,8 +2,10 @@ pub mod Placed
 pub mod Tree
 pub mod Trees
 pub mod Symbols
+pub mod Values
 pub mod Grammar
 pub mod Viable
+pub mod Within
 pub mod Reading
 pub mod Endings
 pub mod Effects

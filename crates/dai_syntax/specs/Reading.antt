@@ -1,6 +1,6 @@
 -- What a part of the parser answers: the derivations from its symbol and whatever follows are those of what
 -- follows, after the tokens that it passed; or it stands where no derivation goes on.
-use Rattle.std.specs.Prelude.{ℕ, ◌≡◌, ◌≤◌, List, [], ◌∷◌, ◌++◌, length, Option, Some, None}
+use Rattle.std.specs.Prelude.{ℕ, ◌≡◌, ◌≤◌, ◌+◌, List, [], ◌∷◌, ◌++◌, length, Option, Some, None}
 use Rattle.dai_lex.specs.declared.token.Kind.{Kind}
 use Rattle.dai_lex.specs.declared.token.Token.{Token}
 use Rattle.dai_syntax.specs.declared.cursor.Cursor.{Cursor}
@@ -8,6 +8,7 @@ use Rattle.dai_syntax.specs.declared.tree.Name.{Name}
 use Rattle.dai_syntax.specs.declared.error.SyntaxError.{SyntaxError}
 use Rattle.dai_syntax.specs.declared.error.SyntaxError.TheVariants.{Unexpected, Deep, LeftOut, Spent}
 use Rattle.dai_syntax.specs.Symbols.{Symbol, Value, name_of}
+use Rattle.dai_syntax.specs.Viable.{most_levels}
 use Rattle.dai_syntax.specs.Grammar.{End, whole, anywhere, left_out, Setting, Derives}
 
 -- the tokens are the front and then the hidden ones
@@ -27,18 +28,25 @@ abbrev pub setting : List ℕ → ℕ → End → Setting
 setting bytes limit end = record { bytes = bytes; limit = limit; end = end }
 
 -- the derivations of one front from one stack of symbols are those of another front from another stack
-pub record Transfers (bytes : List ℕ) (hidden : List Token) (effect : List Value → List Value) (from : List Symbol) (front : List Token) (to : List Symbol) (shown : List Token) : Type 0 where
-  pub back : (limit : ℕ) (end : End) (vs : List Value) → 200 ≤ limit → Derives (setting bytes limit end) to shown vs → Derives (setting bytes limit end) from front (effect vs)
-  pub forth : (limit : ℕ) (end : End) (ws : List Value) → 200 ≤ limit → MayHide end hidden → Derives (setting bytes limit end) from front ws → (vs : List Value) × Derives (setting bytes limit end) to shown vs × (end ≡ whole → ws ≡ effect vs)
+pub record Transfers (bytes : List ℕ) (hidden : List Token) (effect : List Value → List Value)
+    (from : List Symbol) (front : List Token) (to : List Symbol) (shown : List Token) : Type 0 where
+  pub back : (limit : ℕ) (end : End) (vs : List Value) → most_levels ≤ limit
+      → Derives (setting bytes limit end) to shown vs
+      → Derives (setting bytes limit end) from front (effect vs)
+  pub forth : (limit : ℕ) (end : End) (ws : List Value) → most_levels ≤ limit → MayHide end hidden
+      → Derives (setting bytes limit end) from front ws
+      → (vs : List Value) × Derives (setting bytes limit end) to shown vs × (end ≡ whole → ws ≡ effect vs)
 
 -- what some front of the tokens is derived by, for a front of the rest
-pub record Continues (bytes : List ℕ) (from : List Symbol) (tokens : List Token) (to : List Symbol) (effect : List Value → List Value) (hidden shown : List Token) : Type 0 where
+pub record Continues (bytes : List ℕ) (from : List Symbol) (tokens : List Token) (to : List Symbol)
+    (effect : List Value → List Value) (hidden shown : List Token) : Type 0 where
   pub front : List Token
   pub is_front : IsFront hidden front tokens
   pub transfers : Transfers bytes hidden effect from front to shown
 
 -- from one stack before some tokens the derivations lead to another stack before the rest of them
-pub record Leads (bytes : List ℕ) (from : List Symbol) (tokens : List Token) (to : List Symbol) (rest : List Token) (effect : List Value → List Value) : Type 0 where
+pub record Leads (bytes : List ℕ) (from : List Symbol) (tokens : List Token) (to : List Symbol) (rest : List Token)
+    (effect : List Value → List Value) : Type 0 where
   pub shorter : length rest ≤ length tokens
   pub continues : (hidden shown : List Token) → IsFront hidden shown rest → Continues bytes from tokens to effect hidden shown
 
@@ -46,15 +54,26 @@ pub record Leads (bytes : List ℕ) (from : List Symbol) (tokens : List Token) (
 abbrev pub ReadsTokens : List ℕ → Symbol → List Token → Value → List Token → Type 0
 ReadsTokens bytes x tokens v rest = (stack : List Symbol) → Leads bytes (x ∷ stack) tokens stack rest (λ vs. v ∷ vs)
 
+-- no derivation goes on with this token, however high the limit
+abbrev pub NoneTakes : List ℕ → List Symbol → Token → Type 0
+NoneTakes bytes stack t = (limit : ℕ) (vs : List Value) → most_levels ≤ limit → Derives (setting bytes limit anywhere) stack (t ∷ []) vs → ⊥
+
+-- a part that is left out begins with this token
+abbrev pub BeginsLeftOut : List ℕ → List Symbol → Token → List Value → Type 0
+BeginsLeftOut bytes stack t vs = Derives (setting bytes most_levels (left_out t.kind)) stack [] vs
+
 -- no derivation goes on, and the error is the one that stands for that
 abbrev pub IsStuck : List ℕ → List Symbol → List Token → SyntaxError → Type 0
 IsStuck bytes stack tokens Spent = Unit {0}
-IsStuck bytes stack [] (Unexpected at) = (at ≡ length bytes) × ((vs : List Value) → Derives (setting bytes 200 whole) stack [] vs → ⊥)
+IsStuck bytes stack [] (Unexpected at) = (at ≡ length bytes) × ((vs : List Value) → Derives (setting bytes most_levels whole) stack [] vs → ⊥)
 IsStuck bytes stack [] (Deep at) = ⊥
 IsStuck bytes stack [] (LeftOut at) = ⊥
-IsStuck bytes stack (t ∷ tokens) (Unexpected at) = (at ≡ t.start) × ((limit : ℕ) (vs : List Value) → 200 ≤ limit → Derives (setting bytes limit anywhere) stack (t ∷ []) vs → ⊥) × ((vs : List Value) → Derives (setting bytes 200 (left_out t.kind)) stack [] vs → ⊥)
-IsStuck bytes stack (t ∷ tokens) (LeftOut at) = (at ≡ t.start) × ((limit : ℕ) (vs : List Value) → 200 ≤ limit → Derives (setting bytes limit anywhere) stack (t ∷ []) vs → ⊥) × Derives (setting bytes 200 (left_out t.kind)) stack [] []
-IsStuck bytes stack (t ∷ tokens) (Deep at) = (at ≡ t.start) × ((vs : List Value) → Derives (setting bytes 200 anywhere) stack (t ∷ []) vs → ⊥) × ((vs : List Value) × Derives (setting bytes 201 anywhere) stack (t ∷ []) vs)
+IsStuck bytes stack (t ∷ tokens) (Unexpected at) = (at ≡ t.start) × NoneTakes bytes stack t × ((vs : List Value) → BeginsLeftOut bytes stack t vs → ⊥)
+IsStuck bytes stack (t ∷ tokens) (LeftOut at) = (at ≡ t.start) × NoneTakes bytes stack t × BeginsLeftOut bytes stack t []
+IsStuck bytes stack (t ∷ tokens) (Deep at) =
+    (at ≡ t.start)
+    × ((vs : List Value) → Derives (setting bytes most_levels anywhere) stack (t ∷ []) vs → ⊥)
+    × ((vs : List Value) × Derives (setting bytes (most_levels + 1) anywhere) stack (t ∷ []) vs)
 
 -- the derivations lead to where none goes on
 pub record Fails (bytes : List ℕ) (from : List Symbol) (tokens : List Token) (e : SyntaxError) : Type 0 where

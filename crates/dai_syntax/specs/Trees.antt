@@ -11,7 +11,7 @@ abbrev mutual
   pub formula_of : Form → Tree.Formula
   formula_of (Truth b) = Tree.truth b
   formula_of (Atom name args) = Tree.atom name args.items
-  formula_of (Compare a op b) = Tree.comparison a op b
+  formula_of (Compare a op b) = Tree.comparison a.value op b.value
   formula_of (Not' p f) = Tree.negation (formula_of f)
   formula_of (All' shape fs) = Tree.conjunction (formulas_of_row fs)
   formula_of (Any' shape fs) = Tree.disjunction (formulas_of_row fs)

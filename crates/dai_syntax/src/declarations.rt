@@ -1,5 +1,5 @@
 //! Declarations and files.
-ghost use Rattle.std.specs.Prelude.{◌≡◌, ◌≤◌, length, IfOk, IfErr, Some, true, false};
+ghost use Rattle.std.specs.Prelude.{◌≡◌, ◌≤◌, ◌⊎◌, length, IfOk, IfErr, Some, true, false};
 ghost use Rattle.dai_lex.specs.Tokens.{IsTokens};
 ghost use Rattle.dai_syntax.specs.Symbols.{declaration, exported, action_parts, label, label_word, v_mark, v_name, v_declaration};
 ghost use Rattle.dai_syntax.specs.Trees.{declaration_of, declarations_of};
@@ -65,8 +65,8 @@ fn declaration(cursor: &mut Cursor) -> Result<Decl, SyntaxError>
             let _word = cursor.pass(Kind::WordExport);
             exported(cursor)
         }
-        Kind::WordInvariant => invariant(cursor),
-        Kind::WordConjecture => conjecture(cursor),
+        Kind::WordInvariant => invariant(cursor, Kind::WordInvariant),
+        Kind::WordConjecture => invariant(cursor, Kind::WordConjecture),
         _ => Err(cursor.refusal()),
     }
 }
@@ -148,31 +148,18 @@ fn init(cursor: &mut Cursor) -> Result<Decl, SyntaxError>
     })
 }
 
-fn invariant(cursor: &mut Cursor) -> Result<Decl, SyntaxError>
-    requires { kind_ahead cursor.old.rest.now ≡ Some Kind.WordInvariant }
+fn invariant(cursor: &mut Cursor, word: Kind) -> Result<Decl, SyntaxError>
+    requires ahead { kind_ahead cursor.old.rest.now ≡ Some word }
+    requires word { (word ≡ Kind.WordInvariant) ⊎ (word ≡ Kind.WordConjecture) }
     ensures read { IfOk result (λ d. Reads declaration cursor.old (v_declaration (declaration_of d)) cursor.new) }
     ensures failed { IfErr result (FailsAt declaration cursor.old) }
 {
-    let word = cursor.pass(Kind::WordInvariant);
+    let token = cursor.pass(word);
     let label = label(cursor)?;
     Ok(Decl::InvDecl {
         label,
         body: formula(cursor, 0)?,
-        at: word.start,
-    })
-}
-
-fn conjecture(cursor: &mut Cursor) -> Result<Decl, SyntaxError>
-    requires { kind_ahead cursor.old.rest.now ≡ Some Kind.WordConjecture }
-    ensures read { IfOk result (λ d. Reads declaration cursor.old (v_declaration (declaration_of d)) cursor.new) }
-    ensures failed { IfErr result (FailsAt declaration cursor.old) }
-{
-    let word = cursor.pass(Kind::WordConjecture);
-    let label = label(cursor)?;
-    Ok(Decl::InvDecl {
-        label,
-        body: formula(cursor, 0)?,
-        at: word.start,
+        at: token.start,
     })
 }
 

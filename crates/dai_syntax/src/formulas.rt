@@ -1,15 +1,17 @@
 //! Formulas by recursive descent. A chain is read by a loop, so only what nests deepens the recursion.
 ghost use Rattle.std.specs.Prelude.{◌≡◌, ◌≤◌, ◌∷◌, [], IfOk, IfErr, Some};
 ghost use Rattle.dai_syntax.specs.Symbols.{formula, implication, disjunction, conjunction, operand, v_formula};
+ghost use Rattle.dai_syntax.specs.Tree as Tree;
 ghost use Rattle.dai_syntax.specs.Trees.{formula_of};
 ghost use Rattle.dai_syntax.specs.Endings.{quantifier};
+ghost use Rattle.dai_syntax.specs.Viable.{most_levels};
 ghost use Rattle.dai_syntax.specs.Reading.{Reads, FailsAt, kind_ahead};
 
 use crate::binders::{Class, binders, type_mark};
 use crate::cursor::Cursor;
 use crate::error::SyntaxError;
 use crate::terms::{Ending, atom_end, comparison, term};
-use crate::tree::{Arg, Form};
+use crate::tree::{Arg, Form, Op};
 use dai_lex::Kind;
 use std::alloc::{AllocError, AllocFailed, Global};
 
@@ -19,14 +21,15 @@ pub const MOST_LEVELS: u32 = 200;
 /// A formula, where so many constructs are open.
 #[cycle(formula)]
 pub fn formula(cursor: &mut Cursor, depth: u32) -> Result<Form, SyntaxError>
-    requires { depth ≤ 200 }
+    requires { depth ≤ most_levels }
     ensures read { IfOk result (λ f. Reads (formula depth) cursor.old (v_formula (formula_of f)) cursor.new) }
     ensures failed { IfErr result (FailsAt (formula depth) cursor.old) }
 {
-    let first = implication(cursor, depth)?;
+    let read = implication(cursor, depth);
     if !cursor.take(Kind::DoubleArrow) {
-        return Ok(first);
+        return read;
     }
+    let first = read?;
     let second = implication(cursor, depth)?;
     let mut parts = pair(cursor.alloc, first, second)?;
     while cursor.take(Kind::DoubleArrow) {
@@ -38,14 +41,15 @@ pub fn formula(cursor: &mut Cursor, depth: u32) -> Result<Form, SyntaxError>
 /// `->` groups to the right.
 #[cycle(formula)]
 fn implication(cursor: &mut Cursor, depth: u32) -> Result<Form, SyntaxError>
-    requires { depth ≤ 200 }
+    requires { depth ≤ most_levels }
     ensures read { IfOk result (λ f. Reads (implication depth) cursor.old (v_formula (formula_of f)) cursor.new) }
     ensures failed { IfErr result (FailsAt (implication depth) cursor.old) }
 {
-    let left = disjunction(cursor, depth)?;
+    let read = disjunction(cursor, depth);
     if !cursor.is_at(Kind::Arrow) {
-        return Ok(left);
+        return read;
     }
+    let left = read?;
     if depth >= MOST_LEVELS {
         return Err(cursor.too_deep());
     }
@@ -59,14 +63,15 @@ fn implication(cursor: &mut Cursor, depth: u32) -> Result<Form, SyntaxError>
 
 #[cycle(formula)]
 fn disjunction(cursor: &mut Cursor, depth: u32) -> Result<Form, SyntaxError>
-    requires { depth ≤ 200 }
+    requires { depth ≤ most_levels }
     ensures read { IfOk result (λ f. Reads (disjunction depth) cursor.old (v_formula (formula_of f)) cursor.new) }
     ensures failed { IfErr result (FailsAt (disjunction depth) cursor.old) }
 {
-    let first = conjunction(cursor, depth)?;
+    let read = conjunction(cursor, depth);
     if !cursor.take(Kind::Bar) {
-        return Ok(first);
+        return read;
     }
+    let first = read?;
     let second = conjunction(cursor, depth)?;
     let mut parts = pair(cursor.alloc, first, second)?;
     while cursor.take(Kind::Bar) {
@@ -77,14 +82,15 @@ fn disjunction(cursor: &mut Cursor, depth: u32) -> Result<Form, SyntaxError>
 
 #[cycle(formula)]
 fn conjunction(cursor: &mut Cursor, depth: u32) -> Result<Form, SyntaxError>
-    requires { depth ≤ 200 }
+    requires { depth ≤ most_levels }
     ensures read { IfOk result (λ f. Reads (conjunction depth) cursor.old (v_formula (formula_of f)) cursor.new) }
     ensures failed { IfErr result (FailsAt (conjunction depth) cursor.old) }
 {
-    let first = operand(cursor, depth)?;
+    let read = operand(cursor, depth);
     if !cursor.take(Kind::Ampersand) {
-        return Ok(first);
+        return read;
     }
+    let first = read?;
     let second = operand(cursor, depth)?;
     let mut parts = pair(cursor.alloc, first, second)?;
     while cursor.take(Kind::Ampersand) {
@@ -95,7 +101,7 @@ fn conjunction(cursor: &mut Cursor, depth: u32) -> Result<Form, SyntaxError>
 
 #[cycle(formula)]
 fn operand(cursor: &mut Cursor, depth: u32) -> Result<Form, SyntaxError>
-    requires { depth ≤ 200 }
+    requires { depth ≤ most_levels }
     ensures read { IfOk result (λ f. Reads (operand depth) cursor.old (v_formula (formula_of f)) cursor.new) }
     ensures failed { IfErr result (FailsAt (operand depth) cursor.old) }
 {
@@ -123,7 +129,7 @@ fn operand(cursor: &mut Cursor, depth: u32) -> Result<Form, SyntaxError>
 
 #[cycle(formula)]
 fn negation(cursor: &mut Cursor, depth: u32) -> Result<Form, SyntaxError>
-    requires within { depth ≤ 200 }
+    requires within { depth ≤ most_levels }
     requires ahead { kind_ahead cursor.old.rest.now ≡ Some Kind.Tilde }
     ensures read { IfOk result (λ f. Reads (operand depth) cursor.old (v_formula (formula_of f)) cursor.new) }
     ensures failed { IfErr result (FailsAt (operand depth) cursor.old) }
@@ -140,7 +146,7 @@ fn negation(cursor: &mut Cursor, depth: u32) -> Result<Form, SyntaxError>
 
 #[cycle(formula)]
 fn bracket(cursor: &mut Cursor, depth: u32) -> Result<Form, SyntaxError>
-    requires within { depth ≤ 200 }
+    requires within { depth ≤ most_levels }
     requires ahead { kind_ahead cursor.old.rest.now ≡ Some Kind.OpenRound }
     ensures read { IfOk result (λ f. Reads (operand depth) cursor.old (v_formula (formula_of f)) cursor.new) }
     ensures failed { IfErr result (FailsAt (operand depth) cursor.old) }
@@ -162,7 +168,7 @@ fn quantified(
     kind: Kind,
     universal: bool,
 ) -> Result<Form, SyntaxError>
-    requires within { depth ≤ 200 }
+    requires within { depth ≤ most_levels }
     requires ahead { kind_ahead cursor.old.rest.now ≡ Some kind }
     requires word { kind ≡ quantifier universal }
     ensures read { IfOk result (λ f. Reads (operand depth) cursor.old (v_formula (formula_of f)) cursor.new) }
@@ -196,11 +202,7 @@ fn atom(cursor: &mut Cursor, depth: u32) -> Result<Form, SyntaxError>
             args: Vec::new(cursor.alloc),
         }),
         Ending::Applied(args) => Ok(Form::Atom { name, args }),
-        Ending::Compared(op, right) => Ok(Form::Compare {
-            left: Arg::Symbol { name },
-            op,
-            right,
-        }),
+        Ending::Compared(op, right) => compared(cursor.alloc, Arg::Symbol { name }, op, right),
     }
 }
 
@@ -212,10 +214,19 @@ fn comparison_of_variable(cursor: &mut Cursor, depth: u32) -> Result<Form, Synta
     let name = cursor.word(Kind::Upper)?;
     let sort = type_mark(cursor, Class::Variable)?;
     let op = comparison(cursor)?;
+    let right = term(cursor)?;
+    compared(cursor.alloc, Arg::Variable { name, sort }, op, right)
+}
+
+/// A comparison. Its sides are boxed, so that a formula is small.
+fn compared(alloc: Global, left: Arg, op: Op, right: Arg) -> Result<Form, SyntaxError>
+    ensures form { IfOk result (λ f. formula_of f ≡ Tree.comparison left op right) }
+    ensures spent { IfErr result (λ e. e ≡ SyntaxError.Spent) }
+{
     Ok(Form::Compare {
-        left: Arg::Variable { name, sort },
+        left: Box::new(alloc, left)?,
         op,
-        right: term(cursor)?,
+        right: Box::new(alloc, right)?,
     })
 }
 

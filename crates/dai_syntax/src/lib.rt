@@ -13,7 +13,7 @@ pub mod tree;
 
 pub use declarations::parse;
 pub use error::SyntaxError;
-pub use law::{one_fault, one_file};
+pub use law::{one_fault, one_file, places_lie_within};
 pub use tree::{Arg, Binder, Decl, File, Form, Name, Op, Stat};
 
 #[cfg(test)]

@@ -3,6 +3,7 @@ ghost use Rattle.std.specs.Prelude.{◌≡◌, ◌<◌, ◌≤◌, ◌+◌, ◌�
 ghost use Rattle.dai_syntax.specs.Symbols.{block, statements, after_statement, after_block, condition, otherwise, alternative, right_side, v_formula, v_statement, v_statements};
 ghost use Rattle.dai_syntax.specs.Trees.{formula_of, statement_of, statements_of};
 ghost use Rattle.dai_syntax.specs.Effects.{follows, IsStatement};
+ghost use Rattle.dai_syntax.specs.Viable.{most_levels};
 ghost use Rattle.dai_syntax.specs.Reading.{Reads, FailsAt, kind_ahead};
 
 use crate::binders::{Class, binders};
@@ -16,7 +17,7 @@ use dai_lex::Kind;
 /// A block, where so many constructs are open.
 #[cycle(block)]
 pub fn block(cursor: &mut Cursor, depth: u32) -> Result<Vec<Stat>, SyntaxError>
-    requires { depth ≤ 200 }
+    requires { depth ≤ most_levels }
     ensures read { IfOk result (λ body. Reads (block depth) cursor.old (v_statements (statements_of body.items)) cursor.new) }
     ensures failed { IfErr result (FailsAt (block depth) cursor.old) }
 {
@@ -36,7 +37,7 @@ pub fn block(cursor: &mut Cursor, depth: u32) -> Result<Vec<Stat>, SyntaxError>
 /// block.
 #[cycle(block)]
 fn statements(cursor: &mut Cursor, depth: u32) -> Result<Vec<Stat>, SyntaxError>
-    requires { depth ≤ 200 }
+    requires { depth ≤ most_levels }
     ensures read { IfOk result (λ body. Reads (statements depth) cursor.old (v_statements (statements_of body.items)) cursor.new) }
     ensures failed { IfErr result (FailsAt (statements depth) cursor.old) }
 {
@@ -72,7 +73,7 @@ fn ends_with_block(statement: &Stat) -> bool
 /// A statement, if one begins here.
 #[cycle(block)]
 fn statement(cursor: &mut Cursor, depth: u32) -> Result<Option<Stat>, SyntaxError>
-    requires { depth ≤ 200 }
+    requires { depth ≤ most_levels }
     ensures read { IfOk result (IsStatement depth cursor.old cursor.new) }
     ensures failed { IfErr result (FailsAt (statements depth) cursor.old) }
 {
@@ -91,7 +92,7 @@ fn statement(cursor: &mut Cursor, depth: u32) -> Result<Option<Stat>, SyntaxErro
 }
 
 fn requirement(cursor: &mut Cursor, depth: u32, word: Kind) -> Result<Stat, SyntaxError>
-    requires within { depth ≤ 200 }
+    requires within { depth ≤ most_levels }
     requires ahead { kind_ahead cursor.old.rest.now ≡ Some word }
     requires word { (word ≡ Kind.WordRequire) ⊎ (word ≡ Kind.WordAssume) }
     ensures read { IfOk result (λ c. IsStatement depth cursor.old cursor.new (Some c)) }
@@ -104,7 +105,7 @@ fn requirement(cursor: &mut Cursor, depth: u32, word: Kind) -> Result<Stat, Synt
 }
 
 fn assignment(cursor: &mut Cursor, depth: u32) -> Result<Stat, SyntaxError>
-    requires within { depth ≤ 200 }
+    requires within { depth ≤ most_levels }
     requires ahead { kind_ahead cursor.old.rest.now ≡ Some Kind.Lower }
     ensures read { IfOk result (λ c. IsStatement depth cursor.old cursor.new (Some c)) }
     ensures failed { IfErr result (FailsAt (statements depth) cursor.old) }
@@ -121,7 +122,7 @@ fn assignment(cursor: &mut Cursor, depth: u32) -> Result<Stat, SyntaxError>
 
 /// What follows `:=`: a formula. The profile leaves `*` out.
 fn right_side(cursor: &mut Cursor, depth: u32) -> Result<Form, SyntaxError>
-    requires { depth ≤ 200 }
+    requires { depth ≤ most_levels }
     ensures read { IfOk result (λ f. Reads (right_side depth) cursor.old (v_formula (formula_of f)) cursor.new) }
     ensures failed { IfErr result (FailsAt (right_side depth) cursor.old) }
 {
@@ -133,7 +134,7 @@ fn right_side(cursor: &mut Cursor, depth: u32) -> Result<Form, SyntaxError>
 
 #[cycle(block)]
 fn conditional(cursor: &mut Cursor, depth: u32) -> Result<Stat, SyntaxError>
-    requires within { depth ≤ 200 }
+    requires within { depth ≤ most_levels }
     requires ahead { kind_ahead cursor.old.rest.now ≡ Some Kind.WordIf }
     ensures read { IfOk result (λ c. IsStatement depth cursor.old cursor.new (Some c)) }
     ensures failed { IfErr result (FailsAt (statements depth) cursor.old) }
@@ -148,7 +149,7 @@ fn conditional(cursor: &mut Cursor, depth: u32) -> Result<Stat, SyntaxError>
 /// What follows `if`.
 #[cycle(block)]
 fn condition(cursor: &mut Cursor, depth: u32) -> Result<Stat, SyntaxError>
-    requires { depth < 200 }
+    requires { depth < most_levels }
     ensures read { IfOk result (λ c. Reads (condition depth) cursor.old (v_statement (statement_of c)) cursor.new) }
     ensures block { IfOk result (λ c. (d : ℕ) → follows d (statement_of c) ≡ after_block d) }
     ensures failed { IfErr result (FailsAt (condition depth) cursor.old) }
@@ -162,7 +163,7 @@ fn condition(cursor: &mut Cursor, depth: u32) -> Result<Stat, SyntaxError>
 /// The part after `else`, or nothing.
 #[cycle(block)]
 fn otherwise(cursor: &mut Cursor, depth: u32) -> Result<Vec<Stat>, SyntaxError>
-    requires { depth < 200 }
+    requires { depth < most_levels }
     ensures read { IfOk result (λ body. Reads (otherwise depth) cursor.old (v_statements (statements_of body.items)) cursor.new) }
     ensures failed { IfErr result (FailsAt (otherwise depth) cursor.old) }
 {
@@ -179,7 +180,7 @@ fn otherwise(cursor: &mut Cursor, depth: u32) -> Result<Vec<Stat>, SyntaxError>
 /// A block, or a further condition, which is a list of one statement.
 #[cycle(block)]
 fn alternative(cursor: &mut Cursor, depth: u32) -> Result<Vec<Stat>, SyntaxError>
-    requires { depth < 200 }
+    requires { depth < most_levels }
     ensures read { IfOk result (λ body. Reads (alternative depth) cursor.old (v_statements (statements_of body.items)) cursor.new) }
     ensures failed { IfErr result (FailsAt (alternative depth) cursor.old) }
 {
@@ -194,7 +195,7 @@ fn alternative(cursor: &mut Cursor, depth: u32) -> Result<Vec<Stat>, SyntaxError
 
 #[cycle(block)]
 fn locals(cursor: &mut Cursor, depth: u32) -> Result<Stat, SyntaxError>
-    requires within { depth ≤ 200 }
+    requires within { depth ≤ most_levels }
     requires ahead { kind_ahead cursor.old.rest.now ≡ Some Kind.WordLocal }
     ensures read { IfOk result (λ c. IsStatement depth cursor.old cursor.new (Some c)) }
     ensures failed { IfErr result (FailsAt (statements depth) cursor.old) }

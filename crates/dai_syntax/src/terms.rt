@@ -10,6 +10,9 @@ use crate::error::SyntaxError;
 use crate::tree::{Arg, Op};
 use dai_lex::Kind;
 
+/// For how many terms there is room at first.
+const USUAL_TERMS: usize = 2;
+
 /// What follows the name of an atom.
 #[derive(Drop)]
 pub enum Ending {
@@ -48,7 +51,7 @@ fn terms(cursor: &mut Cursor) -> Result<Vec<Arg>, SyntaxError>
     ensures read { IfOk result (λ list. Reads terms cursor.old (v_terms list.items) cursor.new) }
     ensures failed { IfErr result (FailsAt terms cursor.old) }
 {
-    let mut list = Vec::new(cursor.alloc);
+    let mut list = Vec::with_capacity(cursor.alloc, USUAL_TERMS)?;
     list.push(term(cursor)?)?;
     while cursor.take(Kind::Comma) {
         list.push(term(cursor)?)?;

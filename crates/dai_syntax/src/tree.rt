@@ -42,9 +42,9 @@ pub enum Form {
         args: Vec<Arg>,
     },
     Compare {
-        left: Arg,
+        left: Box<Arg>,
         op: Op,
-        right: Arg,
+        right: Box<Arg>,
     },
     Not {
         body: Box<Form>,

@@ -12,15 +12,50 @@ use Rattle.dai_syntax.proofs.Stuck.{sees_none, stuck_operand, sees_any, other_ah
 use Rattle.dai_syntax.proofs.Paths.{begins, takes, skips, reads, passes, reads_whole, fails, is_stuck, spent_result, failed_result, with_effect, at_same, takes_kind, falls}
 use Rattle.dai_syntax.proofs.Rows.{joined, joined_none, joined_more, formulas_hidden}
 use Rattle.dai_syntax.proofs.Deep.{deep_consequence, deep_negation, deep_bracket, deep_quantifier, by_quantifier}
+use Rattle.std.proofs.lemmas.Result.{IfOk-weaker, IfErr-weaker}
 use Rattle.dai_syntax.proofs.formulas.+formula.Goals as goal
-
-pub formula-returns-in_err-first-clause-failed : goal.formula-returns-in_err-first-clause-failed
-formula-returns-in_err-first-clause-failed t c = failed_result (formula c.args.depth) c.args.cursor.now c.from_residual.result c.in_err-first.field-0.0 c.from_residual.ensures.1 (λ stack. fails (skips (begins c.args.cursor.now) a_formula (sees_any c.args.cursor.now.rest.now)) c.in_err-first.ensures.failed)
 
 pub formula-returns-then-not-take-clause-read : goal.formula-returns-then-not-take-clause-read
 formula-returns-then-not-take-clause-read t c =
     let no = c.take.ensures.no c.if-not-take.true in
-    reads_whole (λ stack. at_same (skips (reads (skips (begins c.args.cursor.now) a_formula (sees_any c.args.cursor.now.rest.now)) c.in_ok-first.ensures.read) last_equivalent (sees_none _ (K.DoubleArrow ∷ []) (no.0, tt))) no.1)
+    IfOk-weaker c.implication-read.result _ _ (λ f h. reads_whole (λ stack. at_same (skips (reads (skips (begins c.args.cursor.now) a_formula (sees_any c.args.cursor.now.rest.now)) h) last_equivalent (sees_none _ (K.DoubleArrow ∷ []) (no.0, tt))) no.1)) c.implication-read.ensures.read
+
+pub formula-returns-then-not-take-clause-failed : goal.formula-returns-then-not-take-clause-failed
+formula-returns-then-not-take-clause-failed t c = IfErr-weaker c.implication-read.result _ _ (λ e h stack. fails (skips (begins c.args.cursor.now) a_formula (sees_any c.args.cursor.now.rest.now)) h) c.implication-read.ensures.failed
+
+pub formula-returns-in_err-first-clause-failed : goal.formula-returns-in_err-first-clause-failed
+formula-returns-in_err-first-clause-failed t c = failed_result (formula c.args.depth) c.args.cursor.now c.from_residual.result c.in_err-first.field-0.0 c.from_residual.ensures.1 (λ stack. fails (skips (begins c.args.cursor.now) a_formula (sees_any c.args.cursor.now.rest.now)) c.in_err-first.ensures.failed)
+
+pub disjunction-returns-then-not-take-clause-read : goal.disjunction-returns-then-not-take-clause-read
+disjunction-returns-then-not-take-clause-read t c =
+    let no = c.take.ensures.no c.if-not-take.true in
+    IfOk-weaker c.conjunction-read.result _ _ (λ f h. reads_whole (λ stack. at_same (skips (reads (skips (begins c.args.cursor.now) a_disjunction (sees_any c.args.cursor.now.rest.now)) h) last_disjunct (sees_none _ (K.Bar ∷ []) (no.0, tt))) no.1)) c.conjunction-read.ensures.read
+
+pub disjunction-returns-then-not-take-clause-failed : goal.disjunction-returns-then-not-take-clause-failed
+disjunction-returns-then-not-take-clause-failed t c = IfErr-weaker c.conjunction-read.result _ _ (λ e h stack. fails (skips (begins c.args.cursor.now) a_disjunction (sees_any c.args.cursor.now.rest.now)) h) c.conjunction-read.ensures.failed
+
+pub disjunction-returns-in_err-first-clause-failed : goal.disjunction-returns-in_err-first-clause-failed
+disjunction-returns-in_err-first-clause-failed t c = failed_result (disjunction c.args.depth) c.args.cursor.now c.from_residual.result c.in_err-first.field-0.0 c.from_residual.ensures.1 (λ stack. fails (skips (begins c.args.cursor.now) a_disjunction (sees_any c.args.cursor.now.rest.now)) c.in_err-first.ensures.failed)
+
+pub conjunction-returns-then-not-take-clause-read : goal.conjunction-returns-then-not-take-clause-read
+conjunction-returns-then-not-take-clause-read t c =
+    let no = c.take.ensures.no c.if-not-take.true in
+    IfOk-weaker c.operand-read.result _ _ (λ f h. reads_whole (λ stack. at_same (skips (reads (skips (begins c.args.cursor.now) a_conjunction (sees_any c.args.cursor.now.rest.now)) h) last_conjunct (sees_none _ (K.Ampersand ∷ []) (no.0, tt))) no.1)) c.operand-read.ensures.read
+
+pub conjunction-returns-then-not-take-clause-failed : goal.conjunction-returns-then-not-take-clause-failed
+conjunction-returns-then-not-take-clause-failed t c = IfErr-weaker c.operand-read.result _ _ (λ e h stack. fails (skips (begins c.args.cursor.now) a_conjunction (sees_any c.args.cursor.now.rest.now)) h) c.operand-read.ensures.failed
+
+pub conjunction-returns-in_err-first-clause-failed : goal.conjunction-returns-in_err-first-clause-failed
+conjunction-returns-in_err-first-clause-failed t c = failed_result (conjunction c.args.depth) c.args.cursor.now c.from_residual.result c.in_err-first.field-0.0 c.from_residual.ensures.1 (λ stack. fails (skips (begins c.args.cursor.now) a_conjunction (sees_any c.args.cursor.now.rest.now)) c.in_err-first.ensures.failed)
+
+pub implication-returns-then-not-is_at-clause-read : goal.implication-returns-then-not-is_at-clause-read
+implication-returns-then-not-is_at-clause-read t c = IfOk-weaker c.disjunction-read.result _ _ (λ f h. reads_whole (λ stack. skips (reads (skips (begins c.args.cursor.now) an_implication (sees_any c.args.cursor.now.rest.now)) h) no_consequence (sees_none _ (K.Arrow ∷ []) (c.is_at.ensures.no c.if-not-is_at.true, tt)))) c.disjunction-read.ensures.read
+
+pub implication-returns-then-not-is_at-clause-failed : goal.implication-returns-then-not-is_at-clause-failed
+implication-returns-then-not-is_at-clause-failed t c = IfErr-weaker c.disjunction-read.result _ _ (λ e h stack. fails (skips (begins c.args.cursor.now) an_implication (sees_any c.args.cursor.now.rest.now)) h) c.disjunction-read.ensures.failed
+
+pub implication-returns-in_err-left-clause-failed : goal.implication-returns-in_err-left-clause-failed
+implication-returns-in_err-left-clause-failed t c = failed_result (implication c.args.depth) c.args.cursor.now c.from_residual.result c.in_err-left.field-0.0 c.from_residual.ensures.1 (λ stack. fails (skips (begins c.args.cursor.now) an_implication (sees_any c.args.cursor.now.rest.now)) c.in_err-left.ensures.failed)
 
 pub formula-returns-in_err-second-clause-failed : goal.formula-returns-in_err-second-clause-failed
 formula-returns-in_err-second-clause-failed t c = failed_result (formula c.args.depth) c.args.cursor.now c.from_residual-in_err-second.result c.in_err-second.field-0.0 c.from_residual-in_err-second.ensures.1 (λ stack. fails (takes_kind (reads (skips (begins c.args.cursor.now) a_formula (sees_any c.args.cursor.now.rest.now)) c.in_ok-first.ensures.read) (c.take.ensures.yes c.if-not-take.false) (λ limit high. an_equivalent)) c.in_err-second.ensures.failed)
@@ -50,14 +85,6 @@ formula-returns-clause-read t c =
     let no = c.take-in-loop-parts.ensures.no c.loop-parts-test.false in
     reads_whole (λ stack. at_same (with_effect (skips (c.loop-parts.invariant stack) last_equivalent (sees_none _ (K.DoubleArrow ∷ []) (no.0, tt))) (λ vs. ap (λ fs. v_formula (Tree.equivalence fs) ∷ vs) (joined_none (formulas_of c.loop-parts.parts.items) ∙ sym (formulas_hidden c.loop-parts.parts)))) no.1)
 
-pub disjunction-returns-in_err-first-clause-failed : goal.disjunction-returns-in_err-first-clause-failed
-disjunction-returns-in_err-first-clause-failed t c = failed_result (disjunction c.args.depth) c.args.cursor.now c.from_residual.result c.in_err-first.field-0.0 c.from_residual.ensures.1 (λ stack. fails (skips (begins c.args.cursor.now) a_disjunction (sees_any c.args.cursor.now.rest.now)) c.in_err-first.ensures.failed)
-
-pub disjunction-returns-then-not-take-clause-read : goal.disjunction-returns-then-not-take-clause-read
-disjunction-returns-then-not-take-clause-read t c =
-    let no = c.take.ensures.no c.if-not-take.true in
-    reads_whole (λ stack. at_same (skips (reads (skips (begins c.args.cursor.now) a_disjunction (sees_any c.args.cursor.now.rest.now)) c.in_ok-first.ensures.read) last_disjunct (sees_none _ (K.Bar ∷ []) (no.0, tt))) no.1)
-
 pub disjunction-returns-in_err-second-clause-failed : goal.disjunction-returns-in_err-second-clause-failed
 disjunction-returns-in_err-second-clause-failed t c = failed_result (disjunction c.args.depth) c.args.cursor.now c.from_residual-in_err-second.result c.in_err-second.field-0.0 c.from_residual-in_err-second.ensures.1 (λ stack. fails (takes_kind (reads (skips (begins c.args.cursor.now) a_disjunction (sees_any c.args.cursor.now.rest.now)) c.in_ok-first.ensures.read) (c.take.ensures.yes c.if-not-take.false) (λ limit high. a_disjunct)) c.in_err-second.ensures.failed)
 
@@ -86,14 +113,6 @@ disjunction-returns-clause-read t c =
     let no = c.take-in-loop-parts.ensures.no c.loop-parts-test.false in
     reads_whole (λ stack. at_same (with_effect (skips (c.loop-parts.invariant stack) last_disjunct (sees_none _ (K.Bar ∷ []) (no.0, tt))) (λ vs. ap (λ fs. v_formula (Tree.disjunction fs) ∷ vs) (joined_none (formulas_of c.loop-parts.parts.items) ∙ sym (formulas_hidden c.loop-parts.parts)))) no.1)
 
-pub conjunction-returns-in_err-first-clause-failed : goal.conjunction-returns-in_err-first-clause-failed
-conjunction-returns-in_err-first-clause-failed t c = failed_result (conjunction c.args.depth) c.args.cursor.now c.from_residual.result c.in_err-first.field-0.0 c.from_residual.ensures.1 (λ stack. fails (skips (begins c.args.cursor.now) a_conjunction (sees_any c.args.cursor.now.rest.now)) c.in_err-first.ensures.failed)
-
-pub conjunction-returns-then-not-take-clause-read : goal.conjunction-returns-then-not-take-clause-read
-conjunction-returns-then-not-take-clause-read t c =
-    let no = c.take.ensures.no c.if-not-take.true in
-    reads_whole (λ stack. at_same (skips (reads (skips (begins c.args.cursor.now) a_conjunction (sees_any c.args.cursor.now.rest.now)) c.in_ok-first.ensures.read) last_conjunct (sees_none _ (K.Ampersand ∷ []) (no.0, tt))) no.1)
-
 pub conjunction-returns-in_err-second-clause-failed : goal.conjunction-returns-in_err-second-clause-failed
 conjunction-returns-in_err-second-clause-failed t c = failed_result (conjunction c.args.depth) c.args.cursor.now c.from_residual-in_err-second.result c.in_err-second.field-0.0 c.from_residual-in_err-second.ensures.1 (λ stack. fails (takes_kind (reads (skips (begins c.args.cursor.now) a_conjunction (sees_any c.args.cursor.now.rest.now)) c.in_ok-first.ensures.read) (c.take.ensures.yes c.if-not-take.false) (λ limit high. a_conjunct)) c.in_err-second.ensures.failed)
 
@@ -121,12 +140,6 @@ pub conjunction-returns-clause-read : goal.conjunction-returns-clause-read
 conjunction-returns-clause-read t c =
     let no = c.take-in-loop-parts.ensures.no c.loop-parts-test.false in
     reads_whole (λ stack. at_same (with_effect (skips (c.loop-parts.invariant stack) last_conjunct (sees_none _ (K.Ampersand ∷ []) (no.0, tt))) (λ vs. ap (λ fs. v_formula (Tree.conjunction fs) ∷ vs) (joined_none (formulas_of c.loop-parts.parts.items) ∙ sym (formulas_hidden c.loop-parts.parts)))) no.1)
-
-pub implication-returns-in_err-left-clause-failed : goal.implication-returns-in_err-left-clause-failed
-implication-returns-in_err-left-clause-failed t c = failed_result (implication c.args.depth) c.args.cursor.now c.from_residual.result c.in_err-left.field-0.0 c.from_residual.ensures.1 (λ stack. fails (skips (begins c.args.cursor.now) an_implication (sees_any c.args.cursor.now.rest.now)) c.in_err-left.ensures.failed)
-
-pub implication-returns-then-not-is_at-clause-read : goal.implication-returns-then-not-is_at-clause-read
-implication-returns-then-not-is_at-clause-read t c = reads_whole (λ stack. skips (reads (skips (begins c.args.cursor.now) an_implication (sees_any c.args.cursor.now.rest.now)) c.in_ok-left.ensures.read) no_consequence (sees_none _ (K.Arrow ∷ []) (c.is_at.ensures.no c.if-not-is_at.true, tt)))
 
 pub implication-returns-then-depth-ge-MOST_LEVELS-clause-failed : goal.implication-returns-then-depth-ge-MOST_LEVELS-clause-failed
 implication-returns-then-depth-ge-MOST_LEVELS-clause-failed t c = λ stack. is_stuck c.too_deep.result Deep (reads (skips (begins c.args.cursor.now) an_implication (sees_any c.args.cursor.now.rest.now)) c.in_ok-left.ensures.read) c.too_deep.ensures (stuck_deep stack _ (c.is_at.ensures.yes c.if-not-is_at.false) (a_consequence (omega arith)) (λ body f p. deep_consequence (omega arith) p))

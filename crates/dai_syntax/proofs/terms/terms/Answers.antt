@@ -6,15 +6,18 @@ use Rattle.dai_syntax.proofs.Stuck.{sees_none, sees_any}
 use Rattle.dai_syntax.proofs.Paths.{begins, skips, reads, reads_whole, fails, spent_result, failed_result, with_effect, at_same, takes_kind, falls, grown, ended}
 use Rattle.dai_syntax.proofs.terms.terms.Goals as goal
 
+pub returns-in_err-list-clause-failed : goal.returns-in_err-list-clause-failed
+returns-in_err-list-clause-failed c = spent_result terms c.args.cursor.now c.from_residual.result c.from_residual.ensures.1
+
 pub returns-in_err-term-clause-failed : goal.returns-in_err-term-clause-failed
-returns-in_err-term-clause-failed c = failed_result terms c.args.cursor.now c.from_residual.result c.in_err-term.field-0.0 c.from_residual.ensures.1 (λ stack. fails (skips (begins c.args.cursor.now) the_terms_of (sees_any c.args.cursor.now.rest.now)) c.in_err-term.ensures.failed)
+returns-in_err-term-clause-failed c = failed_result terms c.args.cursor.now c.from_residual-in_err-term.result c.in_err-term.field-0.0 c.from_residual-in_err-term.ensures.1 (λ stack. fails (skips (begins c.args.cursor.now) the_terms_of (sees_any c.args.cursor.now.rest.now)) c.in_err-term.ensures.failed)
 
 pub returns-in_err-push-clause-failed : goal.returns-in_err-push-clause-failed
 returns-in_err-push-clause-failed c = spent_result terms c.args.cursor.now c.from_residual-in_err-push.result c.from_residual-in_err-push.ensures.1
 
 pub loop-list-init : goal.loop-list-init
 loop-list-init c = λ stack.
-    let e : c.push.new.self.items ≡ c.in_ok-term.field-0 ∷ [] = c.in_ok-push.ensures.items ∙ ap (λ xs. xs ++ c.in_ok-term.field-0 ∷ []) c.new-list.ensures.items in
+    let e : c.push.new.self.items ≡ c.in_ok-term.field-0 ∷ [] = c.in_ok-push.ensures.items ∙ ap (λ xs. xs ++ c.in_ok-term.field-0 ∷ []) c.in_ok-list.ensures.items in
     with_effect (reads (skips (begins c.args.cursor.now) the_terms_of (sees_any c.args.cursor.now.rest.now)) c.in_ok-term.ensures.read) (λ vs. ap (λ xs. v_terms (xs ++ the_terms (part1 vs)) ∷ after1 vs) (sym e))
 
 pub returns-in_err-term-2-clause-failed : goal.returns-in_err-term-2-clause-failed

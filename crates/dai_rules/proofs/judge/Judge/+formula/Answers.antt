@@ -4,9 +4,13 @@ use Rattle.dai_syntax.specs.Trees.{formula_of, formulas_of}
 use Rattle.dai_rules.specs.Naming.{bound_by, at_quantifier}
 use Rattle.dai_rules.specs.Views.{View, view_of, naming_of, force_of}
 use Rattle.dai_rules.proofs.Lists.{drop_at}
-use Rattle.dai_rules.proofs.WrittenTrees.{tree_of-All, tree_of-Any, tree_of-Same, tree_of-Implies, tree_of-Quant}
+use Rattle.dai_rules.proofs.WrittenTrees.{tree_of-Compare, tree_of-All, tree_of-Any, tree_of-Same, tree_of-Implies, tree_of-Quant}
 use Rattle.dai_rules.proofs.JudgeSteps.{formula_step, formulas_step, bind_step, implies_by, next_formula, behind_quantifier, quantified_by}
 use Rattle.dai_rules.proofs.judge.Judge.+formula.Goals as goal
+
+pub formula-returns-in-Compare : goal.formula-returns-in-Compare
+formula-returns-in-Compare t c =
+    on_ok_weaker c.comparison.result (λ h. h ∙ ap (λ f. formula_step c.args.role (force_of c.args.force) f (view_of c.args.self.now)) (sym (tree_of-Compare c.args.form.now c.in-Compare.left c.in-Compare.right c.in-Compare.op c.deref-in-Compare.result.now c.deref-in-Compare-2.result.now c.in-Compare.is c.deref-in-Compare.ensures c.deref-in-Compare-2.ensures))) c.comparison.ensures
 
 pub formula-returns-in-All : goal.formula-returns-in-All
 formula-returns-in-All t c =
