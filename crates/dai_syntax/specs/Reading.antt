@@ -59,8 +59,8 @@ abbrev pub NoneTakes : List ℕ → List Symbol → Token → Type 0
 NoneTakes bytes stack t = (limit : ℕ) (vs : List Value) → most_levels ≤ limit → Derives (setting bytes limit anywhere) stack (t ∷ []) vs → ⊥
 
 -- a part that is left out begins with this token
-abbrev pub BeginsLeftOut : List ℕ → List Symbol → Token → List Value → Type 0
-BeginsLeftOut bytes stack t vs = Derives (setting bytes most_levels (left_out t.kind)) stack [] vs
+abbrev pub StartsLeftOut : List ℕ → List Symbol → Token → List Value → Type 0
+StartsLeftOut bytes stack t vs = Derives (setting bytes most_levels (left_out t.kind)) stack [] vs
 
 -- no derivation goes on, and the error is the one that stands for that
 abbrev pub IsStuck : List ℕ → List Symbol → List Token → SyntaxError → Type 0
@@ -68,8 +68,8 @@ IsStuck bytes stack tokens Spent = Unit {0}
 IsStuck bytes stack [] (Unexpected at) = (at ≡ length bytes) × ((vs : List Value) → Derives (setting bytes most_levels whole) stack [] vs → ⊥)
 IsStuck bytes stack [] (Deep at) = ⊥
 IsStuck bytes stack [] (LeftOut at) = ⊥
-IsStuck bytes stack (t ∷ tokens) (Unexpected at) = (at ≡ t.start) × NoneTakes bytes stack t × ((vs : List Value) → BeginsLeftOut bytes stack t vs → ⊥)
-IsStuck bytes stack (t ∷ tokens) (LeftOut at) = (at ≡ t.start) × NoneTakes bytes stack t × BeginsLeftOut bytes stack t []
+IsStuck bytes stack (t ∷ tokens) (Unexpected at) = (at ≡ t.start) × NoneTakes bytes stack t × ((vs : List Value) → StartsLeftOut bytes stack t vs → ⊥)
+IsStuck bytes stack (t ∷ tokens) (LeftOut at) = (at ≡ t.start) × NoneTakes bytes stack t × StartsLeftOut bytes stack t []
 IsStuck bytes stack (t ∷ tokens) (Deep at) =
     (at ≡ t.start)
     × ((vs : List Value) → Derives (setting bytes most_levels anywhere) stack (t ∷ []) vs → ⊥)
