@@ -99,6 +99,7 @@ known n (m ∷ ns) = by_case (nat_eq m n) refl (known n ns)
         by_place : (m ≡ n) ⊎ Contains ns n → ⊥
         by_place (inl e) = let same : nat_eq m n ≡ true = ap (nat_eq m) (sym e) ∙ eq-eqb m m refl in let f : ⊥ = cc in f
         by_place (inr l) = h l
+
     by_case : (b : Bool) → nat_eq m n ≡ b → Contains ns n ⊎ (Contains ns n → ⊥) → Contains (m ∷ ns) n ⊎ (Contains (m ∷ ns) n → ⊥)
     by_case true e rest = inl (0, omega arith, eqb-true m n e)
     by_case false e (inl h) = inl (member_later m n ns h)
