@@ -62,13 +62,17 @@ product_mono : (f g : ℕ → ℕ) (xs : List ℕ) → ((x : ℕ) → f x ≤ g 
 product_mono f g [] h = omega arith
 product_mono f g (x ∷ xs) h = mul-le-mul (h x) (product_mono f g xs h)
 
-fewer_atoms : (P : Protocol) (counts bounds : List ℕ) → WithinEach counts bounds → length (atoms_of P counts) ≤ length (atoms_of P bounds)
-fewer_atoms P counts bounds h =
-    let a = sum_by-le-sum_by (tuples_at counts) (tuples_at bounds) P.relations (λ (R : Relation). product_mono (slice_index counts) (slice_index bounds) R.arguments (λ sort. within_at counts bounds sort h)) in
-    let b = sum_by-le-sum_by (λ (I : Individual). slice_index counts I.sort) (λ (I : Individual). slice_index bounds I.sort) P.individuals (λ (I : Individual). within_at counts bounds I.sort h) in
+-- with no more variables of any type there are no more atoms
+pub fewer_variables : (P : Protocol) (counts bounds : List ℕ) → ((sort : ℕ) → slice_index counts sort ≤ slice_index bounds sort) → length (atoms_of P counts) ≤ length (atoms_of P bounds)
+fewer_variables P counts bounds h =
+    let a = sum_by-le-sum_by (tuples_at counts) (tuples_at bounds) P.relations (λ (R : Relation). product_mono (slice_index counts) (slice_index bounds) R.arguments h) in
+    let b = sum_by-le-sum_by (λ (I : Individual). slice_index counts I.sort) (λ (I : Individual). slice_index bounds I.sort) P.individuals (λ (I : Individual). h I.sort) in
     let left = atoms_of-length P counts in
     let right = atoms_of-length P bounds in
     omega (arith, a, b, left, right)
+
+fewer_atoms : (P : Protocol) (counts bounds : List ℕ) → WithinEach counts bounds → length (atoms_of P counts) ≤ length (atoms_of P bounds)
+fewer_atoms P counts bounds h = fewer_variables P counts bounds (λ sort. within_at counts bounds sort h)
 
 pub Each-weaker : {X : Type 0} (P Q : X → Type 0) (xs : List X) → ((x : X) → P x → Q x) → Each P xs → Each Q xs
 Each-weaker P Q [] h k = tt

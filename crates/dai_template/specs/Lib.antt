@@ -2,3 +2,5 @@ pub mod Atoms
 pub mod ClauseFormulas
 pub mod Meeting
 pub mod Spaces
+pub mod Renamings
+pub mod Lists
