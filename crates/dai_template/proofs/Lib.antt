@@ -26,3 +26,5 @@ pub mod Images
 pub mod Sought
 pub mod LiteralOrder
 pub mod Least
+pub mod Parts
+pub mod SpaceShapes

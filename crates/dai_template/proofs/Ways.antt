@@ -38,20 +38,20 @@ numbers_up_to : (n b : ℕ) → n ≤ b + 1 → Each (λ k. k ≤ b) (numbers_be
 numbers_up_to zero b h = tt
 numbers_up_to (suc n) b h = Each-append (λ k. k ≤ b) (numbers_below n) (n ∷ []) (numbers_up_to n b (omega arith)) (omega arith, tt)
 
-ways_within : (bounds : List ℕ) → Each (λ counts. WithinEach counts bounds) (counts_within bounds)
+pub ways_within : (bounds : List ℕ) → Each (λ counts. WithinEach counts bounds) (counts_within bounds)
 ways_within [] = (tt, tt)
 ways_within (b ∷ bs) =
     Each-flat_map (λ k. k ≤ b) (λ counts. WithinEach counts (b ∷ bs)) (λ n. map (λ (t : List ℕ). n ∷ t) (counts_within bs)) (numbers_below (b + 1))
     (λ n h. Each-map (λ counts. WithinEach counts bs) (λ counts. WithinEach counts (b ∷ bs)) (λ (t : List ℕ). n ∷ t) (counts_within bs) (λ t k. (h, k)) (ways_within bs))
     (numbers_up_to (b + 1) b (omega arith))
 
-within_length : (counts bounds : List ℕ) → WithinEach counts bounds → length counts ≡ length bounds
+pub within_length : (counts bounds : List ℕ) → WithinEach counts bounds → length counts ≡ length bounds
 within_length [] [] h = refl
 within_length [] (b ∷ bs) h = absurd h
 within_length (n ∷ ns) [] h = absurd h
 within_length (n ∷ ns) (b ∷ bs) h = let k = within_length ns bs h.1 in omega (arith, k)
 
-within_at : (counts bounds : List ℕ) (sort : ℕ) → WithinEach counts bounds → slice_index counts sort ≤ slice_index bounds sort
+pub within_at : (counts bounds : List ℕ) (sort : ℕ) → WithinEach counts bounds → slice_index counts sort ≤ slice_index bounds sort
 within_at [] [] sort h = omega arith
 within_at [] (b ∷ bs) sort h = absurd h
 within_at (n ∷ ns) [] sort h = absurd h
