@@ -28,3 +28,5 @@ pub mod LiteralOrder
 pub mod Least
 pub mod Parts
 pub mod SpaceShapes
+pub mod Freed
+pub mod Kept

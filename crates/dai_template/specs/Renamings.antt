@@ -119,3 +119,35 @@ pub record IsCanonicalForm (P : Protocol) (B : Bounds) (space : Space) (c canoni
   pub of_the_space : IsClauseOf P B space canonical
   pub renaming : IsRenaming P (clause_of space c) (clause_of space canonical)
   pub least : IsCanonical P B (clause_of space canonical)
+
+-- the types of the atom's variables are below a number
+abbrev pub AreTypesBelow : ℕ → Atom → Type 0
+AreTypesBelow n (tuple r vs) = All (λ (v : Variable). v.sort < n) vs
+AreTypesBelow n (is_individual v i) = v.sort < n
+
+-- a shape of few types, and literals over its atoms
+pub record IsTyped (types : ℕ) (atoms : List Atom) (literals : List ℕ) : Type 0 where
+  pub few : All (AreTypesBelow 8) atoms
+  pub known : All (AreTypesBelow types) atoms
+  pub inside : All (λ l. l < 2 * length atoms) literals
+
+abbrev pub IsSame : List Bool → List Bool → ℕ → Type 0
+IsSame kept ordered t = slice_index_or kept t false ≡ slice_index_or ordered t false
+
+-- the types of the atom's variables are kept where they are ordered
+abbrev pub AreAsOrdered : List Bool → List Bool → Atom → Type 0
+AreAsOrdered kept ordered (tuple r vs) = All (λ (v : Variable). IsSame kept ordered v.sort) vs
+AreAsOrdered kept ordered (is_individual v i) = IsSame kept ordered v.sort
+
+-- the types of the atom's variables were let go, but for the ordered ones
+pub record IsFreed (ordered old new : List Bool) (atom : Atom) : Type 0 where
+  pub long : length new ≡ length old
+  pub freed : AreAsOrdered new ordered atom
+  pub stays : (t : ℕ) → IsSame old ordered t → IsSame new ordered t
+  pub keeps : (t : ℕ) → slice_index_or ordered t false ≡ true → slice_index_or old t false ≡ true → slice_index_or new t false ≡ true
+
+-- ordered types are kept, and of the literals' types no others
+pub record AreKept (ordered : List Bool) (atoms : List Atom) (literals : List ℕ) (kept : List Bool) : Type 0 where
+  pub long : length kept ≡ 8
+  pub keeps : (t : ℕ) → t < 8 → slice_index_or ordered t false ≡ true → slice_index_or kept t false ≡ true
+  pub freed : (k : ℕ) → k < length literals → AreAsOrdered kept ordered (literal_among atoms (slice_index literals k)).atom

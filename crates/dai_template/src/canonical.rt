@@ -8,11 +8,11 @@ ghost use Rattle.dai_model.specs.Clause as Model;
 ghost use Rattle.arrayvec.specs.ArrayVec.{array_vec_len};
 ghost use Rattle.dai_model.specs.Protocol.{Protocol};
 ghost use Rattle.dai_model.specs.Template.{Bounds};
-ghost use Rattle.dai_model.specs.Clause.{no_atom};
+ghost use Rattle.dai_model.specs.Clause.{no_atom, Variable, tuple};
 ghost use Rattle.dai_logic.specs.Tables.{tuple_place};
 ghost use Rattle.dai_template.specs.Atoms.{variable_of, atom_of};
 ghost use Rattle.dai_template.specs.Meeting.{element_in, sorts_of, IsBegun};
-ghost use Rattle.dai_template.specs.Renamings.{IsPlaceable, IsRenamed, IsRenamable, IsSought, IsShapeOf, AreLiterals, IsSmallerImage, IsLeastFrom, renamed_literal, renamed_literals, put_in_order};
+ghost use Rattle.dai_template.specs.Renamings.{IsPlaceable, IsRenamed, IsRenamable, IsSought, IsShapeOf, AreLiterals, IsSmallerImage, IsLeastFrom, renamed_literal, renamed_literals, put_in_order, IsTyped, AreKept, AreTypesBelow, IsFreed};
 
 use crate::clause::{Atom, Clause, Shape};
 use crate::meeting::may_stand;
@@ -45,14 +45,9 @@ impl Space {
         ensures smaller { IfSome result (λ smaller. (P : Protocol) (B : Bounds) → IsClauseOf P B self.now clause.now → IsSmallerRenaming P B self.now clause.now smaller) }
     {
         let shape = &self.shapes[clause.shape as usize];
-        let lits = smaller_from(
-            &self.ordered,
-            shape,
-            clause.lits.as_slice(),
-            0,
-            0,
-            [0; 32],
-        )?;
+        let literals = clause.lits.as_slice();
+        let kept = kept_orders(&self.ordered, shape, literals);
+        let lits = smaller_from(&kept, shape, literals, 0, 0, [0; 32])?;
         Some(Clause {
             shape: clause.shape,
             lits,
@@ -64,6 +59,48 @@ impl Space {
 const UNMOVED: [u16; 32] = [
     0, 1, 2, 3, 0, 1, 2, 3, 0, 1, 2, 3, 0, 1, 2, 3, 0, 1, 2, 3, 0, 1, 2, 3, 0, 1, 2, 3, 0, 1, 2, 3,
 ];
+
+/// Which of the types keep the order of their variables in the search: those that are ordered, and those of
+/// which no literal has a variable.
+fn kept_orders(ordered: &[bool], shape: &Shape, literals: &[u8]) -> [bool; 8]
+    requires { IsTyped (length ordered.now) (map atom_of shape.now.atoms.items) literals.now }
+    ensures { AreKept ordered.now (map atom_of shape.now.atoms.items) literals.now result }
+{
+    let mut kept = [true; 8];
+    for literal in literals {
+        free_types(
+            &shape.atoms[usize::from(literal / 2)],
+            ordered,
+            &mut kept,
+        );
+    }
+    kept
+}
+
+/// Lets go the types of the atom's variables, but for the ordered ones.
+fn free_types(atom: &Atom, ordered: &[bool], kept: &mut [bool])
+    requires known { AreTypesBelow (length ordered.now) (atom_of atom.now) }
+    requires long { AreTypesBelow (length kept.old) (atom_of atom.now) }
+    ensures { IsFreed ordered.now kept.old kept.new (atom_of atom.now) }
+{
+    match atom {
+        Atom::Tuple { vars, .. } => free_each(vars, ordered, kept),
+        Atom::IsInd { var, .. } => {
+            kept[usize::from(var.0)] = ordered[usize::from(var.0)];
+        }
+    }
+}
+
+/// The same for these variables.
+fn free_each(vars: &[(u8, u8)], ordered: &[bool], kept: &mut [bool])
+    requires known { All (λ (v : Variable). v.sort < length ordered.now) (map variable_of vars.now) }
+    requires long { All (λ (v : Variable). v.sort < length kept.old) (map variable_of vars.now) }
+    ensures { IsFreed ordered.now kept.old kept.new (tuple 0 (map variable_of vars.now)) }
+{
+    for var in vars {
+        kept[usize::from(var.0)] = ordered[usize::from(var.0)];
+    }
+}
 
 /// The literals of a renaming that come before these, among those that go on from this variable of this type.
 fn smaller_from(
