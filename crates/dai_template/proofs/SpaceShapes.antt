@@ -1,12 +1,15 @@
 -- The shapes of a space: they lie within the bounds, and are few.
 use Rattle.std.proofs.Common.{◌≡◌, ◌<◌, ◌≤◌, ◌+◌, ◌*◌, ◌^◌, ℕ, zero, suc, Bool, true, false, cond, List, [], ◌∷◌, ◌++◌, length, get_or, map, sum, sym, ap, ◌∙◌, subst, refl, arith, inl, inr, ◌⊎◌}
-use Rattle.std.specs.Prelude.{filter, slice_index, nat_eq}
+use Rattle.std.specs.Prelude.{filter, slice_index, nat_eq, sum_by}
 use Rattle.std.specs.List.{flat_map}
 use Rattle.std.proofs.lemmas.Bool.{cases_lt}
-use Rattle.std.proofs.lemmas.List.{length-map, length-append, append-nil}
+use Rattle.std.proofs.lemmas.List.{length-map, length-append, append-nil, get_or-map}
 use Rattle.std.proofs.lemmas.List.Concat.{flat_map-append}
+use Rattle.std.proofs.lemmas.List.Sums.{sum_by-cons}
 use Rattle.std.proofs.Math.Nat.{mul-le-mul}
-use Rattle.dai_model.specs.Protocol.{Protocol}
+use Rattle.dai_model.specs.Protocol.{Protocol, Relation, Individual}
+use Rattle.dai_model.specs.Limits.{product, tuples_at}
+use Rattle.dai_model.proofs.Tuples.{atoms_of-length}
 use Rattle.dai_model.specs.Clause.{Clause, numbers_below, atoms_of}
 use Rattle.dai_model.specs.Template.{Bounds, IsTemplate}
 use Rattle.dai_model.specs.Shapes.{counts_within, with_sum, shapes_within}
@@ -19,7 +22,6 @@ use Rattle.dai_template.specs.Spaces.{IsSpaceOf, clause_of}
 use Rattle.dai_template.proofs.Ways.{WithinEach, ways_within, within_length, within_at, few_ways, fewer_variables}
 use Rattle.dai_template.proofs.Written.{small_sum}
 use Rattle.dai_template.proofs.Clauses.{small}
-use Rattle.std.proofs.lemmas.List.{get_or-map}
 
 each_append : {X : Type 0} (P : X → Type 0) (xs ys : List X) → Each P xs → Each P ys → Each P (xs ++ ys)
 each_append P [] ys h k = k
@@ -102,3 +104,27 @@ few_shapes P B space h =
     let total = small_sum B.variables (λ sort. small B.variables sort h.few_variables (cases_lt sort (length B.variables))) in
     let most : (sum B.variables + 1) * length (counts_within B.variables) ≤ 33 * 2 ^ 20 = mul-le-mul (let s : sum B.variables + 1 ≤ 33 = omega (arith, total, types) in s) ways in
     omega (arith, long, same, rows, most)
+
+sum_most : {X : Type 0} (f : X → ℕ) (most : ℕ) (xs : List X) → ((x : X) → f x ≤ most) → sum_by f xs ≤ length xs * most
+sum_most f most [] h = omega arith
+sum_most f most (x ∷ xs) h =
+    let split = sum_by-cons f x xs in
+    let rest = sum_most f most xs h in
+    let here = h x in
+    let more : suc (length xs) * most ≡ length xs * most + most = omega arith in
+    omega (arith, split, rest, here, more)
+
+one_tuple : (R : Relation) → tuples_at [] R ≤ 1
+one_tuple R = at_most R.arguments
+  where
+    at_most : (sorts : List ℕ) → product (map (slice_index []) sorts) ≤ 1
+    at_most [] = omega arith
+    at_most (sort ∷ sorts) = omega arith
+
+-- without variables there are no more atoms than relations
+pub few_flags : (P : Protocol) → length P.relations ≤ 64 → length (atoms_of P []) ≤ 64
+few_flags P few =
+    let all = atoms_of-length P [] in
+    let tuples = sum_most (tuples_at []) 1 P.relations one_tuple in
+    let equations = sum_most (λ (I : Individual). slice_index [] I.sort) 0 P.individuals (λ I. omega arith) in
+    omega (arith, all, tuples, equations, few)
