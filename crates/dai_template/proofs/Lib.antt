@@ -30,3 +30,4 @@ pub mod Parts
 pub mod SpaceShapes
 pub mod Freed
 pub mod Kept
+pub mod LinksFit

@@ -4,3 +4,4 @@ pub mod Meeting
 pub mod Spaces
 pub mod Renamings
 pub mod Lists
+pub mod Links

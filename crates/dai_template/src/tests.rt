@@ -1,10 +1,15 @@
-ghost use Rattle.std.specs.Prelude.{◌≡◌, IfOk, vec_len};
+ghost use Rattle.std.specs.Prelude.{◌≡◌, ◌<◌, ◌≤◌, [], ◌∷◌, length, IfOk, IfSome, vec_len};
+ghost use Rattle.dai_model.specs.Protocol as Protocols;
+ghost use Rattle.dai_model.specs.Template.{Bounds};
+ghost use Rattle.dai_logic.specs.Protocols.{protocol_of};
+ghost use Rattle.dai_template.specs.Links.{links as links_of_the_model, IsLinked};
+ghost use Rattle.dai_template.specs.Spaces.{IsSpaceOf, IsClauseOf};
 
-use crate::clause::{Atom, Clause, Shape};
+use crate::clause::Clause;
 use crate::counting::clause_counts;
 use crate::space::{Space, SpaceError};
 use dai_base::{Spent, Text};
-use dai_logic::{Block, Protocol, RelInfo, SortInfo};
+use dai_logic::{Block, Formula, IndInfo, Protocol, RelInfo, SortInfo, Structure, Term};
 use std::alloc::Global;
 use std::cmp::Ordering;
 use std::test::Fail;
@@ -84,55 +89,236 @@ fn counts_of_clauses(rt: HostRuntime) -> Result<(), Fail> {
     Ok(())
 }
 
-/// A space of flags.
-fn flags(alloc: Global, number: u8, lits: u8) -> Result<Space, Fail> {
-    let mut atoms = Vec::new(alloc);
-    for rel in 0..number {
-        atoms.push(Atom::Tuple {
-            rel,
-            vars: Vec::new(alloc),
-        })?;
-    }
-    let mut shapes = Vec::new(alloc);
-    shapes.push(Shape {
-        counts: Vec::new(alloc),
-        atoms,
-    })?;
-    Ok(Space {
-        shapes,
-        lits,
-        ordered: Vec::new(alloc),
+/// The protocol of the example.
+fn links(alloc: Global) -> Result<Protocol, Spent>
+    ensures { IfOk result (λ p. protocol_of p ≡ links_of_the_model) }
+{
+    let plain = SortInfo {
+        name: Text::from_bytes(alloc, b"t")?,
+        ordered: false,
+    };
+    let ordered = SortInfo {
+        name: Text::from_bytes(alloc, b"o")?,
+        ordered: true,
+    };
+    let pairs = RelInfo {
+        name: Text::from_bytes(alloc, b"r")?,
+        args: vec![in alloc; 0, 0]?,
+    };
+    let ones = RelInfo {
+        name: Text::from_bytes(alloc, b"u")?,
+        args: vec![in alloc; 1]?,
+    };
+    let only = IndInfo {
+        name: Text::from_bytes(alloc, b"c")?,
+        sort: 0,
+    };
+    let sorts = vec![in alloc; plain, ordered]?;
+    let relations = vec![in alloc; pairs, ones]?;
+    let individuals = vec![in alloc; only]?;
+    let init = Block {
+        params: Vec::new(alloc),
+        locals: Vec::new(alloc),
+        code: Vec::new(alloc),
+    };
+    Ok(Protocol {
+        sorts,
+        relations,
+        individuals,
+        axioms: Vec::new(alloc),
+        init,
+        actions: Vec::new(alloc),
+        invariants: Vec::new(alloc),
     })
 }
 
-#[test]
-fn clauses_in_print_order(rt: HostRuntime) -> Result<(), Fail> {
-    let clauses = flags(rt.alloc(), 2, 2)?
-        .all(rt.alloc())
-        .ok()
-        .ok_or("memory")?;
-    let want: [&[u8]; 9] = [
-        &[],
-        &[0],
-        &[1],
-        &[2],
-        &[3],
-        &[0, 2],
-        &[0, 3],
-        &[1, 2],
-        &[1, 3],
-    ];
-    assert_eq!(rt; clauses.len(), want.len());
-    for (clause, literals) in clauses.iter().zip(want) {
-        assert_eq!(rt; clause.lits.as_slice(), literals);
+/// Its space with at most two variables of each type.
+fn space_of_links(alloc: Global, lits: u8) -> Result<Space, Fail>
+    requires { lits ≤ 8 }
+    ensures { IfOk result (IsSpaceOf links_of_the_model (record { variables = 2 ∷ 2 ∷ []; literals = lits })) }
+{
+    let protocol = links(alloc)?;
+    match Space::new(alloc, &protocol, &[2, 2], lits) {
+        Ok(space) => Ok(space),
+        Err(_) => Err("no space".into()),
     }
-    assert_eq!(rt;
-        flags(rt.alloc(), 10, 8)?
-            .all(rt.alloc())
-            .ok()
-            .ok_or("memory")?
-            .len(),
-        52_905
-    );
+}
+
+/// A structure with two elements of each type: whether each pair is related, each element of the ordered type,
+/// and the individual.
+fn state(alloc: Global, r: &[bool], u: &[bool], c: u16) -> Result<Structure, Spent>
+    requires pairs { length r.now ≡ 4 }
+    requires ones { length u.now ≡ 2 }
+    requires element { c < 2 }
+    ensures { IfOk result IsLinked }
+{
+    let first = Vec::from_slice(alloc, r)?;
+    let second = Vec::from_slice(alloc, u)?;
+    Ok(Structure {
+        sizes: vec![in alloc; 2, 2]?,
+        tables: vec![in alloc; first, second]?,
+        values: vec![in alloc; c]?,
+    })
+}
+
+/// The clause of these two literals over the shape, if there is one.
+fn clause(space: &Space, shape: u32, first: u8, second: u8) -> Option<Clause>
+    requires { (P : Protocols.Protocol) × ((B : Bounds) × (IsSpaceOf P B space.now × (2 ≤ B.literals))) }
+    ensures { IfSome result (λ c. (P : Protocols.Protocol) (B : Bounds) → IsSpaceOf P B space.now → 2 ≤ B.literals → IsClauseOf P B space.now c) }
+{
+    if shape as usize >= space.shapes.len() {
+        return None;
+    }
+    let atoms = space.shapes[shape as usize].atoms.len();
+    if first / 2 < second / 2 && usize::from(second / 2) < atoms {
+        Some(Clause::empty(shape).with(first).with(second))
+    } else {
+        None
+    }
+}
+
+/// Renamings swap the variables of the first type alone.
+#[test]
+fn canonical_clauses(rt: HostRuntime) -> Result<(), Fail> {
+    let space = space_of_links(rt.alloc(), 2)?;
+    for (shape, [first, second], want) in [
+        (5, [4, 6], [0, 2]),
+        (5, [3, 10], [3, 10]),
+        (5, [5, 8], [3, 10]),
+        (3, [0, 3], [0, 3]),
+        (3, [1, 2], [1, 2]),
+        (8, [6, 10], [0, 10]),
+    ] {
+        let clause = clause(&space, shape, first, second).ok_or("no clause")?;
+        let canonical = space.canonical(&clause);
+        assert_eq!(rt; canonical.shape, shape);
+        assert_eq!(rt; canonical.lits.as_slice(), want.as_slice());
+    }
+    Ok(())
+}
+
+/// Whether the structure meets the clause of these two literals.
+fn judged(space: &Space, s: &Structure, shape: u32, first: u8, second: u8) -> Option<bool>
+    requires space { (B : Bounds) × (IsSpaceOf links_of_the_model B space.now × (2 ≤ B.literals)) }
+    requires state { IsLinked s.now }
+{
+    let clause = clause(space, shape, first, second)?;
+    Some(space.meets(s, &clause))
+}
+
+#[test]
+fn met_clauses(rt: HostRuntime) -> Result<(), Fail> {
+    let alloc = rt.alloc();
+    let space = space_of_links(alloc, 2)?;
+    let (none, up) = ([false; 4], [true, false]);
+    for (shape, [first, second], r, u, c, want) in [
+        // Two variables of a type stand for different elements.
+        (5, [2, 4], [false, true, false, false], up, 0, true),
+        (5, [2, 4], [true, false, false, true], up, 0, false),
+        // Those of the ordered type stand in order.
+        (3, [0, 3], none, up, 0, true),
+        (3, [1, 2], none, up, 0, false),
+        // An individual.
+        (4, [1, 4], [true, false, false, false], up, 0, true),
+        (4, [1, 4], [true, false, false, false], up, 1, false),
+    ] {
+        if c < 2 {
+            let s = state(alloc, r.as_slice(), u.as_slice(), c)?;
+            let got = judged(&space, &s, shape, first, second);
+            assert_eq!(rt; got, Some(want), "{shape} {first} {second}");
+        }
+    }
+    Ok(())
+}
+
+/// The parts of a disjunction for all elements of two variables of these types.
+fn parts(formula: &Formula, first: u8, second: u8) -> Option<&[Formula]> {
+    let Formula::Forall { var: 0, sort, body } = formula else {
+        return None;
+    };
+    if *sort != first {
+        return None;
+    }
+    let Formula::Forall { var: 1, sort, body } = &**body else {
+        return None;
+    };
+    if *sort != second {
+        return None;
+    }
+    match &**body {
+        Formula::Any(parts) => Some(parts),
+        _ => None,
+    }
+}
+
+#[test]
+fn formulas_of_clauses(rt: HostRuntime) -> Result<(), Fail> {
+    let alloc = rt.alloc();
+    let space = space_of_links(alloc, 2)?;
+    let ordered = clause(&space, 3, 0, 3).ok_or("no clause")?;
+    let formula = space.formula(alloc, &ordered)?;
+    let ordered_parts = parts(&formula, 1, 1).ok_or("no parts")?;
+    assert!(rt; matches!(
+        ordered_parts,
+        [
+            Formula::LessEq {
+                left: Term::Var(1),
+                right: Term::Var(0),
+            },
+            Formula::Rel { rel: 1, .. },
+            Formula::Not(_),
+        ]
+    ));
+    let mixed = clause(&space, 4, 1, 4).ok_or("no clause")?;
+    let formula = space.formula(alloc, &mixed)?;
+    let mixed_parts = parts(&formula, 0, 1).ok_or("no parts")?;
+    assert!(rt; matches!(
+        mixed_parts,
+        [
+            Formula::Not(_),
+            Formula::Same {
+                left: Term::Var(0),
+                right: Term::Ind(0),
+            },
+        ]
+    ));
+    Ok(())
+}
+
+/// Whether the next clause is the one of these literals over the shape.
+fn is_next(rest: &mut std::slice::Iter<'_, Clause>, shape: u32, literals: &[u8]) -> bool {
+    match rest.next() {
+        Some(clause) => clause.shape == shape && clause.lits.as_slice() == literals,
+        None => false,
+    }
+}
+
+/// Of two literals over one pair of variables that a renaming swaps, the lesser is listed.
+#[test]
+fn all_clauses(rt: HostRuntime) -> Result<(), Fail> {
+    let alloc = rt.alloc();
+    let clauses = space_of_links(alloc, 1)?.all(alloc)?;
+    let want: [(u32, &[u8]); 9] = [
+        (0, &[]),
+        (1, &[0, 1]),
+        (2, &[0, 1, 2, 3]),
+        (3, &[0, 1, 2, 3]),
+        (4, &[0, 1, 2, 3, 4, 5]),
+        (5, &[0, 1, 2, 3, 8, 9]),
+        (6, &[0, 1, 2, 3, 4, 5, 6, 7]),
+        (7, &[0, 1, 2, 3, 8, 9, 10, 11]),
+        (8, &[0, 1, 2, 3, 8, 9, 10, 11, 12, 13]),
+    ];
+    let mut rest = clauses.iter();
+    for (shape, literals) in want {
+        assert!(rt; is_next(&mut rest, shape, &[]));
+        for literal in literals {
+            assert!(rt; is_next(&mut rest, shape, &[*literal]), "{shape} {literal}");
+        }
+    }
+    assert!(rt; rest.next().is_none());
+    // By Burnside's lemma, shape by shape: 1 + 3 + 9 + 9 + 19 + 40 + 33 + 54 + 72.
+    let pairs = space_of_links(alloc, 2)?.all(alloc)?;
+    assert_eq!(rt; pairs.len(), 240);
     Ok(())
 }
