@@ -1,9 +1,7 @@
 ghost use Rattle.std.specs.Prelude.{◌≡◌, ◌<◌, ◌≤◌, [], ◌∷◌, length, IfOk, IfSome, vec_len};
-ghost use Rattle.dai_model.specs.Protocol as Protocols;
-ghost use Rattle.dai_model.specs.Template.{Bounds};
 ghost use Rattle.dai_logic.specs.Protocols.{protocol_of};
-ghost use Rattle.dai_template.specs.Links.{links as links_of_the_model, IsLinked};
-ghost use Rattle.dai_template.specs.Spaces.{IsSpaceOf, IsClauseOf};
+ghost use Rattle.dai_template.specs.Links.{links as links_of_the_model, IsLinked, HasPairs, IsPair};
+ghost use Rattle.dai_template.specs.Spaces.{IsSpace};
 
 use crate::clause::Clause;
 use crate::counting::clause_counts;
@@ -135,7 +133,8 @@ fn links(alloc: Global) -> Result<Protocol, Spent>
 /// Its space with at most two variables of each type.
 fn space_of_links(alloc: Global, lits: u8) -> Result<Space, Fail>
     requires { lits ≤ 8 }
-    ensures { IfOk result (IsSpaceOf links_of_the_model (record { variables = 2 ∷ 2 ∷ []; literals = lits })) }
+    ensures space { IfOk result IsSpace }
+    ensures pairs { IfOk result (λ space. 2 ≤ lits → HasPairs space) }
 {
     let protocol = links(alloc)?;
     match Space::new(alloc, &protocol, &[2, 2], lits) {
@@ -163,8 +162,8 @@ fn state(alloc: Global, r: &[bool], u: &[bool], c: u16) -> Result<Structure, Spe
 
 /// The clause of these two literals over the shape, if there is one.
 fn clause(space: &Space, shape: u32, first: u8, second: u8) -> Option<Clause>
-    requires { (P : Protocols.Protocol) × ((B : Bounds) × (IsSpaceOf P B space.now × (2 ≤ B.literals))) }
-    ensures { IfSome result (λ c. (P : Protocols.Protocol) (B : Bounds) → IsSpaceOf P B space.now → 2 ≤ B.literals → IsClauseOf P B space.now c) }
+    requires { HasPairs space.now }
+    ensures { IfSome result (IsPair space.now) }
 {
     if shape as usize >= space.shapes.len() {
         return None;
@@ -175,6 +174,14 @@ fn clause(space: &Space, shape: u32, first: u8, second: u8) -> Option<Clause>
     } else {
         None
     }
+}
+
+/// Its canonical form.
+fn canonical(space: &Space, shape: u32, first: u8, second: u8) -> Option<Clause>
+    requires { HasPairs space.now }
+{
+    let clause = clause(space, shape, first, second)?;
+    Some(space.canonical(&clause))
 }
 
 /// Renamings swap the variables of the first type alone.
@@ -189,17 +196,16 @@ fn canonical_clauses(rt: HostRuntime) -> Result<(), Fail> {
         (3, [1, 2], [1, 2]),
         (8, [6, 10], [0, 10]),
     ] {
-        let clause = clause(&space, shape, first, second).ok_or("no clause")?;
-        let canonical = space.canonical(&clause);
-        assert_eq!(rt; canonical.shape, shape);
-        assert_eq!(rt; canonical.lits.as_slice(), want.as_slice());
+        let found = canonical(&space, shape, first, second).ok_or("no clause")?;
+        assert_eq!(rt; found.shape, shape);
+        assert_eq!(rt; found.lits.as_slice(), want.as_slice());
     }
     Ok(())
 }
 
 /// Whether the structure meets the clause of these two literals.
 fn judged(space: &Space, s: &Structure, shape: u32, first: u8, second: u8) -> Option<bool>
-    requires space { (B : Bounds) × (IsSpaceOf links_of_the_model B space.now × (2 ≤ B.literals)) }
+    requires space { HasPairs space.now }
     requires state { IsLinked s.now }
 {
     let clause = clause(space, shape, first, second)?;
@@ -231,35 +237,42 @@ fn met_clauses(rt: HostRuntime) -> Result<(), Fail> {
     Ok(())
 }
 
+/// The formula of a clause.
+fn formula(
+    alloc: Global,
+    space: &Space,
+    shape: u32,
+    first: u8,
+    second: u8,
+) -> Result<Option<Formula>, Spent>
+    requires { HasPairs space.now }
+{
+    match clause(space, shape, first, second) {
+        Some(clause) => Ok(Some(space.formula(alloc, &clause)?)),
+        None => Ok(None),
+    }
+}
+
+/// What stands behind the quantifier of this variable and type.
+fn behind(formula: &Formula, number: u8, of: u8) -> Option<&Formula> {
+    match formula {
+        Formula::Forall { var, sort, body } if *var == number && *sort == of => Some(body),
+        _ => None,
+    }
+}
+
 /// The parts of a disjunction for all elements of two variables of these types.
 fn parts(formula: &Formula, first: u8, second: u8) -> Option<&[Formula]> {
-    let Formula::Forall { var: 0, sort, body } = formula else {
-        return None;
-    };
-    if *sort != first {
-        return None;
-    }
-    let Formula::Forall { var: 1, sort, body } = &**body else {
-        return None;
-    };
-    if *sort != second {
-        return None;
-    }
-    match &**body {
+    match behind(behind(formula, 0, first)?, 1, second)? {
         Formula::Any(parts) => Some(parts),
         _ => None,
     }
 }
 
-#[test]
-fn formulas_of_clauses(rt: HostRuntime) -> Result<(), Fail> {
-    let alloc = rt.alloc();
-    let space = space_of_links(alloc, 2)?;
-    let ordered = clause(&space, 3, 0, 3).ok_or("no clause")?;
-    let formula = space.formula(alloc, &ordered)?;
-    let ordered_parts = parts(&formula, 1, 1).ok_or("no parts")?;
-    assert!(rt; matches!(
-        ordered_parts,
+/// Whether it is that of `u(X) | ~u(Y)` for X before Y.
+fn is_in_order(parts: &[Formula]) -> bool {
+    matches!(
+        parts,
         [
             Formula::LessEq {
                 left: Term::Var(1),
@@ -268,12 +281,13 @@ fn formulas_of_clauses(rt: HostRuntime) -> Result<(), Fail> {
             Formula::Rel { rel: 1, .. },
             Formula::Not(_),
         ]
-    ));
-    let mixed = clause(&space, 4, 1, 4).ok_or("no clause")?;
-    let formula = space.formula(alloc, &mixed)?;
-    let mixed_parts = parts(&formula, 0, 1).ok_or("no parts")?;
-    assert!(rt; matches!(
-        mixed_parts,
+    )
+}
+
+/// Whether it is that of `~r(X,X) | X = c`.
+fn is_mixed(parts: &[Formula]) -> bool {
+    matches!(
+        parts,
         [
             Formula::Not(_),
             Formula::Same {
@@ -281,42 +295,61 @@ fn formulas_of_clauses(rt: HostRuntime) -> Result<(), Fail> {
                 right: Term::Ind(0),
             },
         ]
-    ));
+    )
+}
+
+#[test]
+fn formulas_of_clauses(rt: HostRuntime) -> Result<(), Fail> {
+    let alloc = rt.alloc();
+    let space = space_of_links(alloc, 2)?;
+    let ordered = formula(alloc, &space, 3, 0, 3)?.ok_or("no clause")?;
+    assert!(rt; is_in_order(parts(&ordered, 1, 1).ok_or("no parts")?));
+    let mixed = formula(alloc, &space, 4, 1, 4)?.ok_or("no clause")?;
+    assert!(rt; is_mixed(parts(&mixed, 0, 1).ok_or("no parts")?));
     Ok(())
 }
 
-/// Whether the next clause is the one of these literals over the shape.
-fn is_next(rest: &mut std::slice::Iter<'_, Clause>, shape: u32, literals: &[u8]) -> bool {
-    match rest.next() {
-        Some(clause) => clause.shape == shape && clause.lits.as_slice() == literals,
+/// Whether the clause is the one of these literals over the shape.
+fn is_clause(clause: Option<&Clause>, shape: usize, literals: &[u8]) -> bool {
+    match clause {
+        Some(clause) => clause.shape as usize == shape && clause.lits.as_slice() == literals,
         None => false,
     }
 }
 
-/// Of two literals over one pair of variables that a renaming swaps, the lesser is listed.
+/// Whether the clauses are, shape by shape, the empty clause and those of these single literals.
+fn are_singles(clauses: &[Clause], shapes: &[&[u8]]) -> bool {
+    let mut rest = clauses.iter();
+    for (shape, literals) in shapes.iter().enumerate() {
+        if !is_clause(rest.next(), shape, &[]) {
+            return false;
+        }
+        for literal in *literals {
+            if !is_clause(rest.next(), shape, &[*literal]) {
+                return false;
+            }
+        }
+    }
+    rest.next().is_none()
+}
+
+/// Of two literals that a renaming swaps the lesser is listed.
 #[test]
 fn all_clauses(rt: HostRuntime) -> Result<(), Fail> {
     let alloc = rt.alloc();
-    let clauses = space_of_links(alloc, 1)?.all(alloc)?;
-    let want: [(u32, &[u8]); 9] = [
-        (0, &[]),
-        (1, &[0, 1]),
-        (2, &[0, 1, 2, 3]),
-        (3, &[0, 1, 2, 3]),
-        (4, &[0, 1, 2, 3, 4, 5]),
-        (5, &[0, 1, 2, 3, 8, 9]),
-        (6, &[0, 1, 2, 3, 4, 5, 6, 7]),
-        (7, &[0, 1, 2, 3, 8, 9, 10, 11]),
-        (8, &[0, 1, 2, 3, 8, 9, 10, 11, 12, 13]),
+    let singles = space_of_links(alloc, 1)?.all(alloc)?;
+    let want: [&[u8]; 9] = [
+        &[],
+        &[0, 1],
+        &[0, 1, 2, 3],
+        &[0, 1, 2, 3],
+        &[0, 1, 2, 3, 4, 5],
+        &[0, 1, 2, 3, 8, 9],
+        &[0, 1, 2, 3, 4, 5, 6, 7],
+        &[0, 1, 2, 3, 8, 9, 10, 11],
+        &[0, 1, 2, 3, 8, 9, 10, 11, 12, 13],
     ];
-    let mut rest = clauses.iter();
-    for (shape, literals) in want {
-        assert!(rt; is_next(&mut rest, shape, &[]));
-        for literal in literals {
-            assert!(rt; is_next(&mut rest, shape, &[*literal]), "{shape} {literal}");
-        }
-    }
-    assert!(rt; rest.next().is_none());
+    assert!(rt; are_singles(&singles, want.as_slice()));
     // By Burnside's lemma, shape by shape: 1 + 3 + 9 + 9 + 19 + 40 + 33 + 54 + 72.
     let pairs = space_of_links(alloc, 2)?.all(alloc)?;
     assert_eq!(rt; pairs.len(), 240);
