@@ -1,11 +1,11 @@
 -- Words: what their text says.
-use Rattle.std.specs.Prelude.{ℕ, List, [], ◌∷◌, cond, if◌then◌else◌, ◌==◌, Option, Some, None, codes}
+use Rattle.std.specs.Prelude.{ℕ, List, [], ◌∷◌, cond, if◌then◌else◌, ◌==◌, ◌&&◌, Bool, true, false, Option, Some, None, codes}
 use Rattle.std.specs.List.{list_all}
 use Rattle.std.specs.Str.{bytes_eq}
-use Rattle.std.specs.Char.{is_ascii_digit, is_ascii_uppercase}
+use Rattle.std.specs.Char.{is_ascii_digit, is_ascii_lowercase, is_ascii_uppercase}
 use Rattle.dai_lex.specs.declared.token.Kind.{Kind}
 use Rattle.dai_lex.specs.declared.token.Kind.TheVariants.{WordType, WordOrdered, WordRelation, WordIndividual, WordAxiom, WordAfter, WordInit, WordAction, WordExport, WordInvariant, WordConjecture, WordRequire, WordAssume, WordLocal, WordIf, WordElse, WordTrue, WordFalse, WordForall, WordExists, Lower, Upper, Digits, LeftOut}
-use Rattle.dai_lex.specs.Bytes.{first}
+use Rattle.dai_lex.specs.Bytes.{first, is_word_byte}
 
 -- the reserved words, and then the words that are left out
 abbrev pub keywords : List (List ℕ × Kind)
@@ -76,3 +76,11 @@ abbrev pub kind_of_word : List ℕ → Option Kind
 kind_of_word text =
     if is_ascii_digit (first text) then (if list_all is_ascii_digit text then Some Digits else None)
     else (if is_ascii_uppercase (first text) then Some Upper else Some (kind_among keywords text))
+
+abbrev pub is_lower : Kind → Bool
+is_lower Lower = true
+is_lower _ = false
+
+-- the text is a word that begins with a small letter and is neither reserved nor left out
+abbrev pub is_name : List ℕ → Bool
+is_name text = is_ascii_lowercase (first text) && (list_all is_word_byte text && is_lower (kind_among keywords text))

@@ -15,7 +15,7 @@ pub(crate) fn begins_word(byte: u8) -> bool
     byte.is_ascii_alphanumeric()
 }
 
-fn is_word_byte(byte: u8) -> bool
+pub(crate) fn is_word_byte(byte: u8) -> bool
     ensures { result ≡ is_word_byte byte }
 {
     byte.is_ascii_alphanumeric() || byte == b'_'

@@ -9,6 +9,7 @@
 mod bytes;
 mod law;
 mod lexer;
+mod names;
 mod pieces;
 mod signs;
 #[cfg(test)]
@@ -18,4 +19,5 @@ mod words;
 
 pub use law::{one_reading, tokens_are_placed};
 pub use lexer::lex;
+pub use names::is_name;
 pub use token::{Kind, LexError, Token};

@@ -8,6 +8,7 @@ use Rattle.dai_model.specs.Structure.{Structure, IsStructure}
 use Rattle.dai_model.specs.Reachable.{IsInitial, IsStepOf, IsStep, IsReachable, initially, by_step}
 use Rattle.dai_model.specs.Clause.{atom_number, Clause, Meets}
 use Rattle.dai_model.specs.Template.{IsTemplate}
+use Rattle.dai_model.specs.Classes.{all_sizes}
 use Rattle.dai_model.specs.Inductive.{IsInductive, IsInGreatest}
 use Rattle.dai_model.specs.WellSorted.{IsProtocol, IsWellSortedBlock, SparesAxioms, closed_scope, IsWellSorted}
 use Rattle.dai_model.specs.TwoFlags.{two_flags, two_literals, swap, some_flag, not_both, first_down}
@@ -25,10 +26,10 @@ only_one x y (zero, h, e) = e
 only_one x y (suc k, h, e) = absurd (omega arith)
 
 -- a clause that holds wherever a block of the example ends is inductive by itself
-alone_inductive : (c : Clause) → ((s : Structure) → IsInitial two_flags s → Meets two_flags s c) → ((s t : Structure) → IsStep two_flags s t → Meets two_flags t c) → IsInductive two_flags (c ∷ [])
+alone_inductive : (c : Clause) → ((s : Structure) → IsInitial two_flags s → Meets two_flags s c) → ((s t : Structure) → IsStep two_flags s t → Meets two_flags t c) → IsInductive all_sizes two_flags (c ∷ [])
 alone_inductive c first later = record {
-  initiation = λ s init d h. subst (Meets two_flags s) (only_one c d h) (first s init);
-  consecution = λ s t st axioms meets step d h. subst (Meets two_flags t) (only_one c d h) (later s t step);
+  initiation = λ s inside init d h. subst (Meets two_flags s) (only_one c d h) (first s init);
+  consecution = λ s t inside st axioms meets step d h. subst (Meets two_flags t) (only_one c d h) (later s t step);
 }
 
 some_flag_first : (s : Structure) → IsInitial two_flags s → Meets two_flags s some_flag
@@ -46,10 +47,10 @@ swapped s t step =
 step_swaps : (s t : Structure) → IsStep two_flags s t → Meets two_flags t some_flag × Meets two_flags t not_both
 step_swaps s t step = swapped s t (subst (λ (a : Action). IsStepOf two_flags a.block s t) (sym (only_one swap step.action step.exported)) step.step)
 
-pub some_flag_inductive : IsInductive two_flags (some_flag ∷ [])
+pub some_flag_inductive : IsInductive all_sizes two_flags (some_flag ∷ [])
 some_flag_inductive = alone_inductive some_flag some_flag_first (λ s t step. (step_swaps s t step).0)
 
-pub not_both_inductive : IsInductive two_flags (not_both ∷ [])
+pub not_both_inductive : IsInductive all_sizes two_flags (not_both ∷ [])
 not_both_inductive = alone_inductive not_both not_both_first (λ s t step. (step_swaps s t step).1)
 
 all_none : {A : Type 0} (P : A → Type 0) → All P []
@@ -79,7 +80,7 @@ two_literals_template a b below_a below_b ordered = record {
   each_atom_once = λ i j h k. two_in_order a b i j ordered h k;
 }
 
-alone_in_greatest : (c : Clause) → IsTemplate two_flags two_literals c → IsInductive two_flags (c ∷ []) → IsInGreatest two_flags two_literals c
+alone_in_greatest : (c : Clause) → IsTemplate two_flags two_literals c → IsInductive all_sizes two_flags (c ∷ []) → IsInGreatest all_sizes two_flags two_literals c
 alone_in_greatest c t i = record {
   witness = c ∷ [];
   templates = λ d h. subst (IsTemplate two_flags two_literals) (only_one c d h) t;
@@ -87,10 +88,10 @@ alone_in_greatest c t i = record {
   member = (0, omega arith, refl);
 }
 
-pub some_flag_in_greatest : IsInGreatest two_flags two_literals some_flag
+pub some_flag_in_greatest : IsInGreatest all_sizes two_flags two_literals some_flag
 some_flag_in_greatest = alone_in_greatest some_flag (two_literals_template 0 2 (omega arith) (omega arith) (omega arith)) some_flag_inductive
 
-pub not_both_in_greatest : IsInGreatest two_flags two_literals not_both
+pub not_both_in_greatest : IsInGreatest all_sizes two_flags two_literals not_both
 not_both_in_greatest = alone_in_greatest not_both (two_literals_template 1 3 (omega arith) (omega arith) (omega arith)) not_both_inductive
 
 -- both flags down, from which init may start
@@ -127,10 +128,10 @@ reaches_first_up =
     let begun = initially (record { before = start; choices = []; structure = start_is_structure; axioms = all_none _; chosen = refl; leaves = refl }) in
     (_, by_step begun (record { action = swap; exported = (0, omega arith, refl); step = record { arguments = []; choices = []; given = refl; chosen = refl; leaves = refl } }), refl)
 
-pub first_down_not_in_greatest : IsInGreatest two_flags two_literals first_down → ⊥
+pub first_down_not_in_greatest : IsInGreatest all_sizes two_flags two_literals first_down → ⊥
 first_down_not_in_greatest g =
     let (t, reached, up) = reaches_first_up in
-    let meets = greatest_is_invariant two_flags two_literals first_down two_flags_is_protocol g t reached in
+    let meets = greatest_is_invariant all_sizes two_flags two_literals first_down two_flags_is_protocol g t tt reached in
     let value = meets [] (record { one_list_each = refl; each = λ sort T h. absurd (let e : ⊥ = cc in e) }) in
     first_not_down (t.holds 0 []) up value
   where

@@ -10,3 +10,4 @@ pub mod Tuples
 pub mod Order
 pub mod Triples
 pub mod Within
+pub mod OneAnswer

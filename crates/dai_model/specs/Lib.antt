@@ -13,6 +13,8 @@ pub mod Sizes
 pub mod Limits
 pub mod Shapes
 pub mod Subsumption
+pub mod Weakening
+pub mod Classes
 pub mod Inductive
 pub mod Answer
 pub mod Report

@@ -6,6 +6,7 @@ use Rattle.std.specs.Fmt.{decimal}
 use Rattle.dai_model.specs.Protocol.{Protocol, Invariant}
 use Rattle.dai_model.specs.Clause.{Clause, Variable, Atom, tuple, is_individual, Literal, literals_of, numbers_below, variables_of}
 use Rattle.dai_model.specs.Template.{Bounds}
+use Rattle.dai_model.specs.Classes.{Class}
 use Rattle.dai_model.specs.Answer.{IsAnswer, AreMissing}
 
 -- the pieces with this text between each two neighbours
@@ -99,9 +100,9 @@ verdict_line P (i ∷ missing) = codes "NOT FOUND" ++ (flat_map (λ j. codes " "
 abbrev pub report_of : Protocol → List Clause → List ℕ → List ℕ
 report_of P answer missing = flat_map (clause_line P) (enumerate_from 1 answer) ++ verdict_line P missing
 
-pub record IsReport (P : Protocol) (B : Bounds) (text : List ℕ) : Type 0 where
+pub record IsReport (C : Class) (P : Protocol) (B : Bounds) (text : List ℕ) : Type 0 where
   pub answer : List Clause
   pub missing : List ℕ
-  pub is_answer : IsAnswer P B answer
-  pub are_missing : AreMissing P B missing
+  pub is_answer : IsAnswer C P B answer
+  pub are_missing : AreMissing C P B missing
   pub text_is : text ≡ report_of P answer missing

@@ -11,7 +11,10 @@ ghost use Rattle.dai_model.specs.Clause.{Clause, Meets};
 ghost use Rattle.dai_model.specs.Template.{Bounds, IsTemplate};
 ghost use Rattle.dai_model.specs.Shapes.{shapes_within, compare_shapes};
 ghost use Rattle.dai_model.specs.Subsumption.{Subsumes};
-ghost use Rattle.dai_model.specs.Inductive.{IsInductive, IsInductiveUpTo, IsInGreatest};
+ghost use Rattle.dai_model.specs.Classes.{Class, all_sizes, up_to, Belongs};
+ghost use Rattle.dai_model.specs.Inductive.{IsInductive, IsInGreatest, LieInOne};
+ghost use Rattle.dai_model.specs.Answer.{IsAnswer};
+ghost use Rattle.dai_model.specs.Report.{IsReport};
 
 /// A quantifier means what it says: `every` is "for all elements", `some` is "for some element".
 pub fn quantifiers_range_over_elements()
@@ -21,17 +24,33 @@ pub fn quantifiers_range_over_elements()
 
 /// The union of two inductive lists is inductive, so the greatest inductive set is inductive too.
 pub fn union_is_inductive()
-    ensures { (P : Protocol) (I J : List Clause) → IsInductive P I → IsInductive P J → IsInductive P (I ++ J) }
+    ensures { (C : Class) (P : Protocol) (I J : List Clause) → IsInductive C P I → IsInductive C P J → IsInductive C P (I ++ J) }
+{}
+
+/// Any clauses of the greatest inductive set lie together in one inductive list of templates.
+pub fn members_lie_in_one_inductive_list()
+    ensures { (C : Class) (P : Protocol) (B : Bounds) (clauses : List Clause) → ((c : Clause) → Contains clauses c → IsInGreatest C P B c) → LieInOne C P B clauses }
 {}
 
 /// A list that is inductive over all sizes is inductive up to every sizes.
 pub fn inductive_up_to_every_size()
-    ensures { (P : Protocol) (I : List Clause) (sizes : List ℕ) → IsInductive P I → IsInductiveUpTo sizes P I }
+    ensures { (P : Protocol) (I : List Clause) (sizes : List ℕ) → IsInductive all_sizes P I → IsInductive (up_to sizes) P I }
 {}
 
-/// A clause of the greatest inductive set holds in every reachable state, at every number of nodes.
+/// A clause of the greatest inductive set holds in every reachable state of the class; over all sizes, at every
+/// number of nodes.
 pub fn greatest_set_is_invariant()
-    ensures { (P : Protocol) (B : Bounds) (c : Clause) → IsProtocol P → IsInGreatest P B c → (s : Structure) → IsReachable P s → Meets P s c }
+    ensures { (C : Class) (P : Protocol) (B : Bounds) (c : Clause) → IsProtocol P → IsInGreatest C P B c → (s : Structure) → Belongs C s → IsReachable P s → Meets P s c }
+{}
+
+/// A protocol and bounds have at most one answer over a class.
+pub fn one_answer()
+    ensures { (C : Class) (P : Protocol) (B : Bounds) (I J : List Clause) → IsAnswer C P B I → IsAnswer C P B J → I ≡ J }
+{}
+
+/// A protocol and bounds have at most one report over a class.
+pub fn one_report()
+    ensures { (C : Class) (P : Protocol) (B : Bounds) (text other : List ℕ) → IsReport C P B text → IsReport C P B other → text ≡ other }
 {}
 
 /// A clause below another one implies it in every structure.

@@ -13,8 +13,9 @@ use Rattle.dai_logic.specs.declared.protocol.Step.{Step, Cond}
 use Rattle.dai_logic.specs.Trees.{formula_of, statement_of, statements_of}
 use Rattle.dai_sorts.specs.Vocabulary.{Vocabulary}
 use Rattle.dai_sorts.specs.Meaning.{Means, Directs, DirectEach, IsMeaningless, DirectsNothing, DirectNothing}
-use Rattle.dai_sorts.proofs.Trees.{statements_hidden, written_code_hidden}
-use Rattle.dai_sorts.proofs.Lists.{splits_at}
+use Rattle.dai_rules.proofs.WrittenTrees.{written_code_hidden}
+use Rattle.dai_sorts.proofs.Trees.{statements_hidden}
+use Rattle.dai_rules.proofs.Lists.{splits_at}
 
 tree_of-Cond : (stat : Stat) (cond : Form) (gs hs : Vec Stat Global) (first second : List Stat) → stat ≡ Written.Cond cond gs hs → first ≡ gs.items → second ≡ hs.items → tree_of stat ≡ Tree.conditional (formula_tree cond) (trees_of first) (trees_of second)
 tree_of-Cond stat cond gs hs first second e y z =

@@ -10,7 +10,7 @@ use Rattle.dai_syntax.specs.Tree.{Declaration}
 use Rattle.dai_sorts.specs.Vocabulary.{file_vocabulary, same_name, relation_name, axiom_body}
 use Rattle.dai_sorts.specs.Meaning.{Means}
 use Rattle.dai_sorts.specs.Files.{IsFlagFile, IsActionOf, IsInvariantOf, flag, init_body, labelled_body, all_joined}
-use Rattle.dai_sorts.proofs.Lists.{length-AllZip}
+use Rattle.dai_rules.proofs.Lists.{length-AllZip}
 use Rattle.dai_sorts.proofs.Plain.{universal_sentence, block_in_profile}
 use Rattle.dai_sorts.proofs.Exported.{actions_shown, names_shown, shown_apart, few_shown, named_as_written}
 use Rattle.dai_sorts.proofs.WellSorted.{All-right, well_sorted}

@@ -1,5 +1,4 @@
 pub mod Trees
-pub mod Lists
 pub mod Numbers
 pub mod Naming
 pub mod Checking
@@ -13,18 +12,3 @@ pub mod Mentions
 pub mod Plain
 pub mod Exported
 pub mod InProfile
-pub mod NameTables
-pub mod WrittenTrees
-pub mod VariableLemmas
-pub mod RangeLemmas
-pub mod ClassLemmas
-pub mod ViewLemmas
-pub mod JudgeSteps
-pub mod CodeSteps
-pub mod DeclarationSteps
-pub mod Members
-pub mod TypeClasses
-pub mod TypeFaults
-pub mod FirstFaults
-pub mod SiteRanges
-pub mod FaultLemmas

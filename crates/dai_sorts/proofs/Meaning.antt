@@ -10,8 +10,9 @@ use Rattle.dai_syntax.specs.Trees.{formula_of as tree_of, formulas_of as trees_o
 use Rattle.dai_logic.specs.declared.protocol.Formula.{Formula, All, Any, Iff}
 use Rattle.dai_logic.specs.Trees.{formula_of, formulas_of}
 use Rattle.dai_sorts.specs.Meaning.{Means, MeanEach, IsMeaningless, AreMeaningless}
-use Rattle.dai_sorts.proofs.Trees.{formulas_hidden, written_hidden}
-use Rattle.dai_sorts.proofs.Lists.{splits_at}
+use Rattle.dai_rules.proofs.WrittenTrees.{written_hidden}
+use Rattle.dai_sorts.proofs.Trees.{formulas_hidden}
+use Rattle.dai_rules.proofs.Lists.{splits_at}
 
 tree_of-All : (form : Form) (parts : Vec Form Global) (items : List Form) → form ≡ Written.All parts → items ≡ parts.items → tree_of form ≡ Tree.conjunction (trees_of items)
 tree_of-All form parts items e is = ap tree_of e ∙ ap Tree.conjunction (written_hidden parts) ∙ ap (λ gs. Tree.conjunction (trees_of gs)) (sym is)

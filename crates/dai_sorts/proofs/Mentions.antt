@@ -6,8 +6,8 @@ use Rattle.dai_syntax.specs.declared.tree.Form as Written
 use Rattle.dai_syntax.specs.declared.tree.Form.{Form}
 use Rattle.dai_syntax.specs.Trees.{formula_of, formulas_of}
 use Rattle.dai_sorts.specs.Vocabulary.{mentions, some_mention}
-use Rattle.dai_sorts.proofs.Numbers.{or_false, or_assoc}
-use Rattle.dai_sorts.proofs.Trees.{written_hidden}
+use Rattle.dai_rules.proofs.Keys.{or_false, or_assoc}
+use Rattle.dai_rules.proofs.WrittenTrees.{written_hidden}
 
 pub mentions-All : (x : List ℕ) (form : Form) (parts : Vec Form Global) (items : List Form) → form ≡ Written.All parts → items ≡ parts.items → some_mention x (formulas_of items) ≡ mentions x (formula_of form)
 mentions-All x form parts items e is = ap (λ gs. some_mention x (formulas_of gs)) is ∙ ap (some_mention x) (sym (written_hidden parts)) ∙ ap (λ g. mentions x (formula_of g)) (sym e)

@@ -10,8 +10,8 @@ use Rattle.dai_syntax.specs.declared.tree.Binder.{Binder}
 use Rattle.dai_syntax.specs.Tree.{Statements, Declaration, sort, relation, individual, axiom_of, init, action, export, invariant}
 use Rattle.dai_sorts.specs.Vocabulary.{Vocabulary, file_vocabulary, same_name, is_among, mentions, relation_name, action_name, declared_name, exported_name, axiom_body}
 use Rattle.dai_sorts.specs.Files.{AreNamedApart}
-use Rattle.dai_sorts.proofs.Numbers.{or_assoc}
-use Rattle.dai_sorts.proofs.Lists.{filter_map-gains, filter_map-passes, length-filter_map-front}
+use Rattle.dai_rules.proofs.Keys.{or_assoc}
+use Rattle.dai_rules.proofs.Lists.{filter_map-gains, filter_map-passes, length-filter_map-front}
 
 or_swap : (a b c : Bool) → (a || (b || c)) ≡ (b || (a || c))
 or_swap true true c = refl

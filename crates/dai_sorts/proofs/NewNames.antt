@@ -12,8 +12,8 @@ use Rattle.dai_sorts.specs.Vocabulary.{Vocabulary, same_name, is_among, mentions
 use Rattle.dai_sorts.specs.Numbers.{texts_of, vocabulary_of}
 use Rattle.dai_sorts.specs.Files.{AreNamedApart}
 use Rattle.dai_sorts.specs.Drafts.{IsVocabulary, CanNotAddNames}
-use Rattle.dai_sorts.proofs.Numbers.{or_false}
-use Rattle.dai_sorts.proofs.Lists.{filter_map-gains, filter_map-passes, goes_on}
+use Rattle.dai_rules.proofs.Keys.{or_false}
+use Rattle.dai_rules.proofs.Lists.{filter_map-gains, filter_map-passes, goes_on}
 use Rattle.dai_sorts.proofs.Naming.{more_vocabulary, apart_relation, apart_action, apart_other, not_apart_relation, not_apart_action, none_apart, AreNamedApart-front}
 
 kept : (h : Declaration → Option (List ℕ)) (ds : List Declaration) (d : Declaration) (old new : List (List ℕ)) → h d ≡ None → new ≡ old → filter_map h ds ≡ old → new ≡ filter_map h (ds ++ d ∷ [])

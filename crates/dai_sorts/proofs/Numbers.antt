@@ -8,11 +8,9 @@ use Rattle.std.proofs.lemmas.List.Quantifiers.{position-Some}
 use Rattle.std.proofs.lemmas.Map.Keys.{any_passes_from_place}
 use Rattle.std.proofs.lemmas.Option.{slice_get-map, slice_get_cases}
 use Rattle.std.proofs.lemmas.Slice.Eq.{bytes_eq-Decides}
+use Rattle.dai_rules.proofs.Keys.{is_key, with_key, among_texts, texts_of-push}
 use Rattle.dai_sorts.specs.Numbers.{texts_of, HasNumber, IsUnknown}
 use Rattle.dai_sorts.specs.Vocabulary.{is_among, same_name}
-
-abbrev is_key : List ℕ → Vec ℕ Global → Bool
-is_key name key = pointwise nat_eq name key.items
 
 text_at : (keys : List (Vec ℕ Global)) (i : ℕ) (key : Vec ℕ Global) → slice_get keys i ≡ Some key → slice_get (texts_of keys) i ≡ Some key.items
 text_at keys i key e = slice_get-map (λ (k : Vec ℕ Global). k.items) keys i ∙ ap (option_map (λ (k : Vec ℕ Global). k.items)) e
@@ -49,57 +47,6 @@ found_by query name keys (Some i) same e w = subst (λ bytes. HasNumber (texts_o
 pub absent_by : (query name : List ℕ) (keys : List (Vec ℕ Global)) (o : Option ℕ) → query ≡ name → is_some o ≡ list_any (is_key query) keys → IfNone o (IsUnknown (texts_of keys) name)
 absent_by query name keys None same e = subst (IsUnknown (texts_of keys)) same (unknown_from_contains query keys (sym e))
 absent_by query name keys (Some i) same e = tt
-
--- a key that stands for the name, and the name among the texts
-pub among_texts : (name : List ℕ) (keys : List (Vec ℕ Global)) → list_any (is_key name) keys ≡ is_among name (texts_of keys)
-among_texts name [] = refl
-among_texts name (key ∷ keys) = ap (λ b. is_key name key || b) (among_texts name keys)
-
-pub texts_of-push : (keys : List (Vec ℕ Global)) (key : Vec ℕ Global) → texts_of (keys ++ key ∷ []) ≡ texts_of keys ++ key.items ∷ []
-texts_of-push [] key = refl
-texts_of-push (k ∷ keys) key = ap (λ rest. k.items ∷ rest) (texts_of-push keys key)
-
-pub among_by : (query name : List ℕ) (keys : List (Vec ℕ Global)) (b : Bool) → query ≡ name → b ≡ list_any (is_key query) keys → b ≡ is_among name (texts_of keys)
-among_by query name keys b same e = e ∙ ap (λ q. list_any (is_key q) keys) same ∙ among_texts name keys
-
-pub or_false : (b : Bool) → (b || false) ≡ b
-or_false true = refl
-or_false false = refl
-
-pub or_assoc : (a b c : Bool) → (a || (b || c)) ≡ ((a || b) || c)
-or_assoc true b c = refl
-or_assoc false b c = refl
-
-pub among_push : (x name : List ℕ) (names : List (List ℕ)) → is_among x (names ++ name ∷ []) ≡ (is_among x names || same_name x name)
-among_push x name [] = or_false (same_name x name)
-among_push x name (n ∷ ns) = ap (λ b. same_name x n || b) (among_push x name ns) ∙ or_assoc (same_name x n) (is_among x ns) (same_name x name)
-
-among_same : (x name : List ℕ) (names : List (List ℕ)) → is_among name names ≡ true → same_name x name ≡ true → is_among x names ≡ true
-among_same x name names known h =
-    let same : x ≡ name = (bytes_eq-Decides x name).0 h in
-    subst (λ y. is_among y names ≡ true) (sym same) known
-
-or_known : (a b : Bool) → (b ≡ true → a ≡ true) → a ≡ (a || b)
-or_known true b h = refl
-or_known false true h = h refl
-or_known false false h = refl
-
-among_old : (x name : List ℕ) (names : List (List ℕ)) → is_among name names ≡ true → is_among x names ≡ (is_among x names || same_name x name)
-among_old x name names known = or_known (is_among x names) (same_name x name) (among_same x name names known)
-
--- the keys after an insertion
-abbrev with_key : Bool → List (Vec ℕ Global) → Vec ℕ Global → List (Vec ℕ Global)
-with_key b keys key = if b then keys else keys ++ key ∷ []
-
-with_key_among : (b : Bool) (x : List ℕ) (keys : List (Vec ℕ Global)) (key : Vec ℕ Global) → is_among key.items (texts_of keys) ≡ b → is_among x (texts_of (with_key b keys key)) ≡ (is_among x (texts_of keys) || same_name x key.items)
-with_key_among true x keys key e = among_old x key.items (texts_of keys) e
-with_key_among false x keys key e = ap (is_among x) (texts_of-push keys key) ∙ among_push x key.items (texts_of keys)
-
-pub inserted_among : (x name : List ℕ) (old new : List (Vec ℕ Global)) (key : Vec ℕ Global) → key.items ≡ name → new ≡ with_key (list_any (is_key key.items) old) old key → is_among x (texts_of new) ≡ (is_among x (texts_of old) || same_name x name)
-inserted_among x name old new key is e =
-    ap (λ keys. is_among x (texts_of keys)) e
-    ∙ with_key_among (list_any (is_key key.items) old) x old key (sym (among_texts key.items old))
-    ∙ ap (λ n. is_among x (texts_of old) || same_name x n) is
 
 pub inserted_last : (name : List ℕ) (old new : List (Vec ℕ Global)) (key : Vec ℕ Global) → key.items ≡ name → new ≡ with_key (list_any (is_key key.items) old) old key → is_among name (texts_of old) ≡ false → texts_of new ≡ texts_of old ++ name ∷ []
 inserted_last name old new key is e unknown =

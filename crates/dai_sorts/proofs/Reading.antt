@@ -21,7 +21,7 @@ use Rattle.dai_sorts.specs.Vocabulary.{Vocabulary, axiom_body}
 use Rattle.dai_sorts.specs.Meaning.{Means, Directs, DirectEach}
 use Rattle.dai_sorts.specs.Files.{init_body, named_body, labelled_body, joined, all_joined, IsFlagDeclaration, AreFlagDeclarations, AreParts, IsActionOf, IsInvariantOf, label_at}
 use Rattle.dai_sorts.specs.Drafts.{IsDraft, drafted, CanNotAdd}
-use Rattle.dai_sorts.proofs.Lists.{filter_map-gains, filter_map-passes, filter-gains, filter-passes, length-filter_map-front, All-front, AllZip-gains, length-AllZip, enumerate_from-gains, goes_on}
+use Rattle.dai_rules.proofs.Lists.{filter_map-gains, filter_map-passes, filter-gains, filter-passes, length-filter_map-front, All-front, AllZip-gains, length-AllZip, enumerate_from-gains, goes_on}
 
 -- several blocks in one, and one more of them
 joined_nil : (ss : Statements) → joined ss no_statements ≡ ss

@@ -15,7 +15,7 @@ use Rattle.dai_sorts.specs.Flags.{IsFlagProtocol}
 use Rattle.dai_sorts.specs.Numbers.{HasNumber}
 use Rattle.dai_sorts.specs.Vocabulary.{Vocabulary, file_vocabulary, same_name, mentions, some_mention, axiom_body}
 use Rattle.dai_sorts.specs.Meaning.{Means, MeanEach, Directs, DirectEach}
-use Rattle.dai_sorts.proofs.Numbers.{or_false}
+use Rattle.dai_rules.proofs.Keys.{or_false}
 use Rattle.dai_sorts.specs.Files.{IsFlagFile, IsActionOf, IsInvariantOf, flag, init_body, named_body, labelled_body, all_joined}
 
 -- each number of a name is that of a relation without arguments

@@ -4,17 +4,3 @@ pub mod Numbers
 pub mod Meaning
 pub mod Files
 pub mod Drafts
-pub mod Names
-pub mod Naming
-pub mod Types
-pub mod Sites
-pub mod Rules
-pub mod Faults
-pub mod Ranges
-pub mod Tables
-pub mod Kinds
-pub mod Classes
-pub mod First
-pub mod Labels
-pub mod Views
-pub mod Rooms

@@ -15,9 +15,9 @@ use Rattle.dai_syntax.specs.declared.error.SyntaxError.TheVariants as Syntax
 use Rattle.dai_syntax.specs.Tree.{Declaration}
 use Rattle.dai_syntax.specs.Viable.{IsFile, IsSyntaxFault, IsSyntaxError, HaveOneVerdict}
 use Rattle.dai_model.specs.Protocol.{Protocol}
-use Rattle.dai_sorts.specs.Faults.{ComesFirst, IsFirstSortFault, IsFaultless}
-use Rattle.dai_sorts.specs.Sites.{Site}
-use Rattle.dai_sorts.specs.Rules.{Breaks, breaks_21, breaks_22, breaks_23, breaks_24, two_types, breaks_25, breaks_26, unordered, breaks_27, breaks_28, breaks_29, breaks_30, breaks_31, breaks_42}
+use Rattle.dai_rules.specs.Faults.{ComesFirst, IsFirstSortFault, IsFaultless}
+use Rattle.dai_rules.specs.Sites.{Site}
+use Rattle.dai_rules.specs.Rules.{Breaks, breaks_21, breaks_22, breaks_23, breaks_24, two_types, breaks_25, breaks_26, unordered, breaks_27, breaks_28, breaks_29, breaks_30, breaks_31, breaks_42}
 use Rattle.dai_base.specs.Fault.{IsInTable}
 use Rattle.dai_sorts.specs.Files.{IsFlagFile}
 use Rattle.dai_top.specs.declared.inference.NoReport.{NoReport}

@@ -9,7 +9,7 @@ use Rattle.dai_syntax.specs.declared.error.SyntaxError.TheVariants.{Unexpected, 
 use Rattle.dai_syntax.specs.Tree.{Declaration}
 use Rattle.dai_syntax.specs.Viable.{IsFile, IsSyntaxFault}
 use Rattle.dai_model.specs.Protocol.{Protocol}
-use Rattle.dai_sorts.specs.Faults.{IsFirstSortFault, IsFaultless}
+use Rattle.dai_rules.specs.Faults.{IsFirstSortFault, IsFaultless}
 use Rattle.dai_sorts.specs.Files.{IsFlagFile}
 
 -- the number of a fault of the grammar, and the offset of its place

@@ -3,7 +3,7 @@ use Rattle.std.specs.Prelude.{ℕ, List}
 use Rattle.dai_base.specs.Fault.{IsInTable}
 use Rattle.dai_lex.specs.declared.token.LexError.{LexError}
 use Rattle.dai_lex.specs.declared.token.LexError.TheVariants as Lex
-use Rattle.dai_sorts.specs.Faults.{IsFirstSortFault}
+use Rattle.dai_rules.specs.Faults.{IsFirstSortFault}
 use Rattle.dai_sorts.specs.declared.error.SortError.{SortError}
 use Rattle.dai_sorts.specs.declared.error.SortError.TheVariants as Sorts
 use Rattle.dai_syntax.specs.declared.error.SyntaxError.{SyntaxError}

@@ -2,7 +2,7 @@
 ghost use Rattle.std.specs.Prelude.{◌≡◌, ◌<◌, ◌≤◌, length, OnOk, IfOk, IfErr};
 ghost use Rattle.dai_syntax.specs.Trees.{declarations_of};
 ghost use Rattle.dai_logic.specs.Protocols.{protocol_of};
-ghost use Rattle.dai_sorts.specs.Faults.{IsFaultless};
+ghost use Rattle.dai_rules.specs.Faults.{IsFaultless};
 ghost use Rattle.dai_sorts.specs.Flags.{IsFlagProtocol};
 ghost use Rattle.dai_table.specs.Flags.{IsTableOf};
 ghost use Rattle.dai_top.specs.Refusals.{IsAccepted};
@@ -13,7 +13,8 @@ use dai_lex::{LexError, lex, one_reading};
 use dai_logic::Protocol;
 use dai_order::Antichain;
 use dai_print::report_text;
-use dai_sorts::{SortError, check, sort_fault};
+use dai_rules::sort_fault;
+use dai_sorts::{SortError, check};
 use dai_syntax::{File, SyntaxError, one_fault, one_file, parse};
 use dai_table::{MOST_FLAGS, TruthTable};
 use dai_template::Space;

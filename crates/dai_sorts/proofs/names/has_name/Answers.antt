@@ -1,4 +1,4 @@
-use Rattle.dai_sorts.proofs.Numbers.{among_by}
+use Rattle.dai_rules.proofs.Keys.{among_by}
 use Rattle.dai_sorts.proofs.names.has_name.Goals as goal
 
 pub returns : goal.returns

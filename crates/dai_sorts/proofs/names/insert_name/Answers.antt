@@ -1,5 +1,5 @@
 use Rattle.std.proofs.Common.{◌∙◌}
-use Rattle.dai_sorts.proofs.Numbers.{inserted_among}
+use Rattle.dai_rules.proofs.Keys.{inserted_among}
 use Rattle.dai_sorts.proofs.names.insert_name.Goals as goal
 
 pub returns : goal.returns

@@ -3,7 +3,7 @@ use Rattle.dai_syntax.specs.Trees.{statements_of as trees_of}
 use Rattle.dai_logic.specs.Trees.{statements_of}
 use Rattle.dai_sorts.specs.Numbers.{vocabulary_of}
 use Rattle.dai_sorts.specs.Meaning.{DirectEach}
-use Rattle.dai_sorts.proofs.Lists.{nil_by_length}
+use Rattle.dai_rules.proofs.Lists.{nil_by_length}
 use Rattle.dai_sorts.proofs.Reading.{adds_action, adds_hidden_action}
 use Rattle.dai_sorts.proofs.draft.Draft.add_action.Goals as goal
 

@@ -1,0 +1,17 @@
+pub mod Lists
+pub mod Keys
+pub mod WrittenTrees
+pub mod NameTables
+pub mod VariableLemmas
+pub mod RangeLemmas
+pub mod ClassLemmas
+pub mod ViewLemmas
+pub mod JudgeSteps
+pub mod CodeSteps
+pub mod DeclarationSteps
+pub mod Members
+pub mod TypeClasses
+pub mod TypeFaults
+pub mod FirstFaults
+pub mod SiteRanges
+pub mod FaultLemmas

@@ -1,0 +1,14 @@
+pub mod Names
+pub mod Naming
+pub mod Types
+pub mod Sites
+pub mod Rules
+pub mod Faults
+pub mod Tables
+pub mod Kinds
+pub mod Ranges
+pub mod Classes
+pub mod Labels
+pub mod First
+pub mod Views
+pub mod Rooms

@@ -1,7 +1,0 @@
-use Rattle.std.proofs.Common.{◌≡◌, ◌++◌, take, drop}
-use Rattle.dai_sorts.specs.Classes.{relabelled}
-use Rattle.dai_sorts.proofs.classes.relabel.Given as goal
-
--- those so far have the new label, those to come are as they were
-abbrev pub invariant-loop-label : goal.invariant-loop-label
-invariant-loop-label l = take l.label-index l.labels ++ relabelled l.from l.to (drop l.label-index l.labels) ≡ relabelled l.from l.to l.fn.labels

@@ -1,0 +1,11 @@
+-- the value of the digits so far, which is within the bound
+use Rattle.std.proofs.Common.{◌≡◌, ◌≤◌, ◌<◌, ◌^◌, take}
+use Rattle.std.specs.Str.Parse.{digits_value}
+use Rattle.dai_words.proofs.number.value_within.Given as goal
+
+abbrev pub invariant-loop-digit : goal.invariant-loop-digit
+invariant-loop-digit l = record {
+  value : l.value ≡ digits_value 10 (take l.digit-index l.digits);
+  within : l.value ≤ l.most;
+  small : l.most < 2 ^ 64;
+}
