@@ -111,15 +111,15 @@ renamed_rising : (P : Protocol) (counts : List ℕ) (atoms : List Atom) (to lite
 renamed_rising P counts atoms to literals h are =
     put_all_rising (map (renamed_literal P counts to) literals) [] tt
     (rising_from AreApart (map (renamed_literal P counts to) literals) (λ i j before below.
-        let long = length-map literals (renamed_literal P counts to) in
-        let hj : j < length literals = omega (arith, below, long) in
-        let hi : i < length literals = omega (arith, before, hj) in
-        let ei = get_or-map (renamed_literal P counts to) literals i 0 0 hi in
-        let ej = get_or-map (renamed_literal P counts to) literals j 0 0 hj in
-        let once = are.each_atom_once i j before hj in
-        subst (λ x. AreApart x (get_or (map (renamed_literal P counts to) literals) j 0)) (sym ei)
-        (subst (λ y. AreApart (renamed_literal P counts to (get_or literals i 0)) y) (sym ej)
-        (apart P counts atoms to (get_or literals i 0) (get_or literals j 0) h (at literals (length (atoms_of P counts)) i are.of_the_shape hi) (at literals (length (atoms_of P counts)) j are.of_the_shape hj) (λ e. omega (arith, once, e))))))
+    let long = length-map literals (renamed_literal P counts to) in
+    let hj : j < length literals = omega (arith, below, long) in
+    let hi : i < length literals = omega (arith, before, hj) in
+    let ei = get_or-map (renamed_literal P counts to) literals i 0 0 hi in
+    let ej = get_or-map (renamed_literal P counts to) literals j 0 0 hj in
+    let once = are.each_atom_once i j before hj in
+    subst (λ x. AreApart x (get_or (map (renamed_literal P counts to) literals) j 0)) (sym ei)
+    (subst (λ y. AreApart (renamed_literal P counts to (get_or literals i 0)) y) (sym ej)
+    (apart P counts atoms to (get_or literals i 0) (get_or literals j 0) h (at literals (length (atoms_of P counts)) i are.of_the_shape hi) (at literals (length (atoms_of P counts)) j are.of_the_shape hj) (λ e. omega (arith, once, e))))))
     (each_any (map (renamed_literal P counts to) literals))
   where
     each_any : (xs : List ℕ) → Each (λ n. Each (AreApart n) []) xs
@@ -135,12 +135,12 @@ pub array_image : (P : Protocol) (counts : List ℕ) (atoms : List Atom) (to : L
 array_image P counts atoms to elements literals h agree are = record {
   are = record {
     of_the_shape = each_all (λ l. l < 2 * length (atoms_of P counts)) (renamed_literals P counts to literals)
-    (put_all_each (λ l. l < 2 * length (atoms_of P counts)) (map (renamed_literal P counts to) literals) []
-    (each_from (λ l. l < 2 * length (atoms_of P counts)) (map (renamed_literal P counts to) literals) (λ i below.
+        (put_all_each (λ l. l < 2 * length (atoms_of P counts)) (map (renamed_literal P counts to) literals) []
+        (each_from (λ l. l < 2 * length (atoms_of P counts)) (map (renamed_literal P counts to) literals) (λ i below.
         let long = length-map literals (renamed_literal P counts to) in
         let hi : i < length literals = omega (arith, below, long) in
         subst (λ x. x < 2 * length (atoms_of P counts)) (sym (get_or-map (renamed_literal P counts to) literals i 0 0 hi)) (moved P counts atoms to (get_or literals i 0) h (at literals (length (atoms_of P counts)) i are.of_the_shape hi)).inside))
-    tt);
+        tt);
     each_atom_once = λ i j before below. rising_at IsAtomBefore (renamed_literals P counts to literals) i j before below (renamed_rising P counts atoms to literals h are);
   };
   as_many = let e = put_all_length (map (renamed_literal P counts to) literals) [] in let k = length-map literals (renamed_literal P counts to) in omega (arith, e, k);
@@ -158,16 +158,16 @@ only_image P counts atoms to elements literals others h agree are image =
     (let e = put_all_length (map (renamed_literal P counts to) literals) [] in let k = length-map literals (renamed_literal P counts to) in let m = image.as_many in omega (arith, e, k, m))
     (put_all_each (λ x. Among x others) (map (renamed_literal P counts to) literals) []
     (each_from (λ x. Among x others) (map (renamed_literal P counts to) literals) (λ i below.
-        let long = length-map literals (renamed_literal P counts to) in
-        let hi : i < length literals = omega (arith, below, long) in
-        let l = get_or literals i 0 in
-        let inside = at literals (length (atoms_of P counts)) i are.of_the_shape hi in
-        let found = image.taken l (i, hi, get_or_default literals i l 0 hi) in
-        let there : found.0 < length others = let k = found.1 in let e = length-map others (literal_among (atoms_of P counts)) in omega (arith, k, e) in
-        let m = get_or others found.0 0 in
-        let same : literal_among (atoms_of P counts) m ≡ literal_among (atoms_of P counts) (renamed_literal P counts to l) =
-        sym (get_or-map (literal_among (atoms_of P counts)) others found.0 0 (image_of elements (literal_among (atoms_of P counts) l)) there) ∙ (found.2 ∙ sym (literal_image P counts atoms to elements l h agree inside)) in
-        let one : m ≡ renamed_literal P counts to l = same_number P counts m (renamed_literal P counts to l) (at others (length (atoms_of P counts)) found.0 image.are.of_the_shape there) (moved P counts atoms to l h inside).inside same in
-        subst (λ x. Among x others) (sym (get_or-map (renamed_literal P counts to) literals i 0 0 hi))
-        (among_at (renamed_literal P counts to l) others found.0 there (get_or_default others found.0 (renamed_literal P counts to l) 0 there ∙ one))))
+    let long = length-map literals (renamed_literal P counts to) in
+    let hi : i < length literals = omega (arith, below, long) in
+    let l = get_or literals i 0 in
+    let inside = at literals (length (atoms_of P counts)) i are.of_the_shape hi in
+    let found = image.taken l (i, hi, get_or_default literals i l 0 hi) in
+    let there : found.0 < length others = let k = found.1 in let e = length-map others (literal_among (atoms_of P counts)) in omega (arith, k, e) in
+    let m = get_or others found.0 0 in
+    let same : literal_among (atoms_of P counts) m ≡ literal_among (atoms_of P counts) (renamed_literal P counts to l) =
+    sym (get_or-map (literal_among (atoms_of P counts)) others found.0 0 (image_of elements (literal_among (atoms_of P counts) l)) there) ∙ (found.2 ∙ sym (literal_image P counts atoms to elements l h agree inside)) in
+    let one : m ≡ renamed_literal P counts to l = same_number P counts m (renamed_literal P counts to l) (at others (length (atoms_of P counts)) found.0 image.are.of_the_shape there) (moved P counts atoms to l h inside).inside same in
+    subst (λ x. Among x others) (sym (get_or-map (renamed_literal P counts to) literals i 0 0 hi))
+    (among_at (renamed_literal P counts to l) others found.0 there (get_or_default others found.0 (renamed_literal P counts to l) 0 there ∙ one))))
     tt)

@@ -44,7 +44,7 @@ renaming_image P B c renamed t r =
       are = subst (λ counts. AreLiterals P counts renamed.literals) (sym r.same_shape) are;
       as_many = r.as_many_literals;
       taken = λ l h. subst (λ counts. Contains (map (literal_among (atoms_of P counts)) renamed.literals) (image_of r.permuted.injection (literal_among (atoms_of P c.counts) l))) (sym r.same_shape)
-      (r.permuted.literals (literal_among (atoms_of P c.counts) l) (contains_map (literal_among (atoms_of P c.counts)) c.literals l h));
+          (r.permuted.literals (literal_among (atoms_of P c.counts) l) (contains_map (literal_among (atoms_of P c.counts)) c.literals l h));
     }
 
 pub least_canonical : (P : Protocol) (B : Bounds) (c : Clause) (values : List ℕ) → IsLeastFrom P c.counts c.literals 0 0 values → IsCanonical P B c
@@ -154,10 +154,10 @@ canonical_copy P B space clause copy h e f least =
 small_literals : (P : Protocol) (B : Bounds) (space : Space) (clause : Kept) → IsClauseOf P B space clause → Each (λ l. l < 256) clause.lits.items
 small_literals P B space clause h =
     each_from (λ l. l < 256) clause.lits.items (λ i below.
-        let a = h.template.of_the_shape i 0 below in
-        let b = fewer_variables P (clause_of space clause).counts B.variables h.template.few_variables in
-        let k = h.space_of.few_atoms in
-        omega (arith, a, b, k))
+    let a = h.template.of_the_shape i 0 below in
+    let b = fewer_variables P (clause_of space clause).counts B.variables h.template.few_variables in
+    let k = h.space_of.few_atoms in
+    omega (arith, a, b, k))
 
 -- the search comes to an end
 pub smaller_written : (P : Protocol) (B : Bounds) (space : Space) (clause smaller : Kept) → IsClauseOf P B space clause → IsSmallerRenaming P B space clause smaller → written smaller.lits.items < written clause.lits.items

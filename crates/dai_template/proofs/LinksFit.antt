@@ -40,8 +40,8 @@ only = record { name = 99 ∷ []; sort = 0 }
 links_protocol : IsProtocol links
 links_protocol = record {
   relations = all_cons (λ (R : Model.Relation). All (λ sort. sort < 2) R.arguments) pairs (ones ∷ [])
-  (all_cons (λ sort. sort < 2) 0 (0 ∷ []) (omega arith) (all_cons (λ sort. sort < 2) 0 [] (omega arith) (all_none (λ sort. sort < 2))))
-  (all_cons (λ (R : Model.Relation). All (λ sort. sort < 2) R.arguments) ones [] (all_cons (λ sort. sort < 2) 1 [] (omega arith) (all_none (λ sort. sort < 2))) (all_none (λ (R : Model.Relation). All (λ sort. sort < 2) R.arguments)));
+      (all_cons (λ sort. sort < 2) 0 (0 ∷ []) (omega arith) (all_cons (λ sort. sort < 2) 0 [] (omega arith) (all_none (λ sort. sort < 2))))
+      (all_cons (λ (R : Model.Relation). All (λ sort. sort < 2) R.arguments) ones [] (all_cons (λ sort. sort < 2) 1 [] (omega arith) (all_none (λ sort. sort < 2))) (all_none (λ (R : Model.Relation). All (λ sort. sort < 2) R.arguments)));
   individuals = all_cons (λ (I : Model.Individual). I.sort < 2) only [] (omega arith) (all_none (λ (I : Model.Individual). I.sort < 2));
   axioms = all_none _;
   init = record { parameters = all_none _; choices = all_none _; code = tt };

@@ -100,11 +100,11 @@ part_as P B space Q R part to from h = record {
 pub joined : (P : Protocol) (B : Bounds) (space : Space) (Q R S : Clause → Type 0) (xs ys : List Kept) → ((c d : Clause) → Q c → R d → print_order c d ≡ Less) → ((c : Clause) → Q c → S c) → ((c : Clause) → R c → S c) → ((c : Clause) → IsTemplate P B c → S c → Q c ⊎ R c) → IsPart P B space Q xs → IsPart P B space R ys → IsPart P B space S (xs ++ ys)
 joined P B space Q R S xs ys before left right split h k = record {
   each = each_append (IsListed P B space S) xs ys
-  (each_to (IsListed P B space Q) (IsListed P B space S) xs (λ c l. record { of_the_space = l.of_the_space; canonical = l.canonical; has = left (clause_of space c) l.has }) h.each)
-  (each_to (IsListed P B space R) (IsListed P B space S) ys (λ c l. record { of_the_space = l.of_the_space; canonical = l.canonical; has = right (clause_of space c) l.has }) k.each);
+      (each_to (IsListed P B space Q) (IsListed P B space S) xs (λ c l. record { of_the_space = l.of_the_space; canonical = l.canonical; has = left (clause_of space c) l.has }) h.each)
+      (each_to (IsListed P B space R) (IsListed P B space S) ys (λ c l. record { of_the_space = l.of_the_space; canonical = l.canonical; has = right (clause_of space c) l.has }) k.each);
   complete = λ c t canonical s. in_either c t canonical (split c t s);
   rising = rising_append (Comes space) xs ys h.rising k.rising
-  (each_to (IsListed P B space Q) (λ x. Each (Comes space x) ys) xs (λ x l. each_to (IsListed P B space R) (Comes space x) ys (λ y m. before (clause_of space x) (clause_of space y) l.has m.has) k.each) h.each);
+      (each_to (IsListed P B space Q) (λ x. Each (Comes space x) ys) xs (λ x l. each_to (IsListed P B space R) (Comes space x) ys (λ y m. before (clause_of space x) (clause_of space y) l.has m.has) k.each) h.each);
 }
   where
     in_either : (c : Clause) → IsTemplate P B c → IsCanonical P B c → Q c ⊎ R c → Contains (clauses_of space (xs ++ ys)) c
@@ -209,6 +209,7 @@ template_more P B c m t inside before room =
         let long = pushed_length c.literals m in
         let e = get_or_push c.literals m d k (let same : length c.literals ≡ k = omega (arith, below, last, long) in same) in
         omega (arith, e, inside)
+
     once : (i j : ℕ) → i < j → j < length (c.literals ++ m ∷ []) → (j < length c.literals) ⊎ (length c.literals ≤ j) → slice_index (c.literals ++ m ∷ []) i / 2 < slice_index (c.literals ++ m ∷ []) j / 2
     once i j h k (inl early) =
         let ei = ap (λ n. n / 2) (pushed_at c.literals m i (omega (arith, h, early))) in
@@ -314,9 +315,11 @@ atom_more P B space c positive negative from left fewer atom p n old mid half ne
       inside = omega (arith, e, inside);
       are = k.are;
     }
+
     of_the_atom : (d : Clause) → GoesOnWith P (clause_of space c) p left d ⊎ GoesOnWith P (clause_of space c) n left d → GoesOnBelow P (clause_of space c) from left (atom + 1) d
     of_the_atom d (inl k) = with_next d p (omega (arith, hp)) k
     of_the_atom d (inr k) = with_next d n (omega (arith, hn)) k
+
     wider : (d : Clause) → GoesOnBelow P (clause_of space c) from left atom d → GoesOnBelow P (clause_of space c) from left (atom + 1) d
     wider d k = record {
       next = k.next;
@@ -329,9 +332,11 @@ atom_more P B space c positive negative from left fewer atom p n old mid half ne
       inside = k.inside;
       are = k.are;
     }
+
     earlier : (x y : Clause) → GoesOnBelow P (clause_of space c) from left atom x → GoesOnWith P (clause_of space c) p left y ⊎ GoesOnWith P (clause_of space c) n left y → print_order x y ≡ Less
     earlier x y kx (inl ky) = ordered_by_next (clause_of space c) x y kx.next p kx.rest ky.rest kx.same_shape ky.same_shape (let a = kx.long in let b = ky.long in omega (arith, a, b)) kx.literals ky.literals (let b = kx.below in omega (arith, b, hp))
     earlier x y kx (inr ky) = ordered_by_next (clause_of space c) x y kx.next n kx.rest ky.rest kx.same_shape ky.same_shape (let a = kx.long in let b = ky.long in omega (arith, a, b)) kx.literals ky.literals (let b = kx.below in omega (arith, b, hn))
+
     as_next : (d : Clause) (m : ℕ) (k : GoesOnBelow P (clause_of space c) from left (atom + 1) d) → k.next ≡ m → GoesOnWith P (clause_of space c) m left d
     as_next d m k e = record {
       rest = k.rest;
@@ -340,18 +345,19 @@ atom_more P B space c positive negative from left fewer atom p n old mid half ne
       long = k.long;
       are = subst (λ x. AreRest (length (atoms_of P (clause_of space c).counts)) (x / 2 + 1) k.rest) e k.are;
     }
+
     by_atom : (d : Clause) (k : GoesOnBelow P (clause_of space c) from left (atom + 1) d) → (k.next / 2 < atom) ⊎ (atom ≤ k.next / 2) → GoesOnBelow P (clause_of space c) from left atom d ⊎ (GoesOnWith P (clause_of space c) p left d ⊎ GoesOnWith P (clause_of space c) n left d)
     by_atom d k (inl small) = inl (record {
-        next = k.next;
-        rest = k.rest;
-        same_shape = k.same_shape;
-        literals = k.literals;
-        long = k.long;
-        start = k.start;
-        below = small;
-        inside = k.inside;
-        are = k.are;
-      })
+      next = k.next;
+      rest = k.rest;
+      same_shape = k.same_shape;
+      literals = k.literals;
+      long = k.long;
+      start = k.start;
+      below = small;
+      inside = k.inside;
+      are = k.are;
+    })
     by_atom d k (inr large) = inr (by_sign (cases_lt (k.next) n))
       where
         by_sign : (k.next < n) ⊎ (n ≤ k.next) → GoesOnWith P (clause_of space c) p left d ⊎ GoesOnWith P (clause_of space c) n left d
@@ -462,6 +468,7 @@ shape_more P B space shape old new h inside before after =
         let long = length-map space.shapes.items counts_of in
         let same = ap length h.shapes in
         ap (λ (ls : List (List ℕ)). compare_shapes (get_or ls number []) (get_or ls shape [])) h.shapes ∙ shapes_in_order B.variables number shape [] below (omega (arith, long, same, inside))
+
     by_number : (x : Clause) → IsTemplate P B x → (k : IsOverShapesBelow space (shape + 1) x) → (k.number < shape) ⊎ (shape ≤ k.number) → IsOverShapesBelow space shape x ⊎ HasFewLiterals space shape (B.literals + 1) x
     by_number x t k (inl small) = inl (record { number = k.number; below = small; over = k.over })
     by_number x t k (inr large) =
@@ -498,9 +505,9 @@ list_of_all P B space shapes clauses h many part = record {
       let below : found.0 < length (map counts_of space.shapes.items) = let k = found.1 in let same = ap length h.shapes in omega (arith, k, same) in
       let long = length-map space.shapes.items counts_of in
       part.complete c t canonical (record {
-          number = found.0;
-          below = omega (arith, below, long, many);
-          over = sym found.2 ∙ (ap (λ (ls : List (List ℕ)). get_or ls found.0 c.counts) (sym h.shapes) ∙ get_or_default (map counts_of space.shapes.items) found.0 c.counts [] below);
-        });
+        number = found.0;
+        below = omega (arith, below, long, many);
+        over = sym found.2 ∙ (ap (λ (ls : List (List ℕ)). get_or ls found.0 c.counts) (sym h.shapes) ∙ get_or_default (map counts_of space.shapes.items) found.0 c.counts [] below);
+      });
   in_order = λ i j d before below. rising_at space clauses i j d before below part.rising;
 }

@@ -68,11 +68,7 @@ fn kept_orders(ordered: &[bool], shape: &Shape, literals: &[u8]) -> [bool; 8]
 {
     let mut kept = [true; 8];
     for literal in literals {
-        free_types(
-            &shape.atoms[usize::from(literal / 2)],
-            ordered,
-            &mut kept,
-        );
+        free_types(&shape.atoms[usize::from(literal / 2)], ordered, &mut kept);
     }
     kept
 }

@@ -1,5 +1,6 @@
 //! The canonical clauses of a space, in print order.
 ghost use Rattle.std.specs.Prelude.{◌≡◌, ◌+◌, ◌≤◌, ◌<◌, length};
+
 use crate::clause::Clause;
 use crate::space::Space;
 use dai_base::Spent;

@@ -27,8 +27,8 @@ returns-then-from-len-clause-smaller t c =
     let same : c.args.sort ≡ length c.args.shape.now.counts.items = let a = c.if-from-len.true in let e = c.from.ensures in let d = c.len.ensures in omega (arith, a, e, d) in
     if_some c.smaller_image.result _ _ _
     (λ smaller are_those less P h are b.
-        let renamed = all_renamed P c.args.ordered.now counts atoms c.args.sort c.args.number c.args.to h b same in
-        end_smaller P counts atoms c.args.literals.now c.args.to smaller.items renamed are (are_those P renamed) less)
+    let renamed = all_renamed P c.args.ordered.now counts atoms c.args.sort c.args.number c.args.to h b same in
+    end_smaller P counts atoms c.args.literals.now c.args.to smaller.items renamed are (are_those P renamed) less)
     c.smaller_image.ensures.some c.smaller_image.ensures.less
 
 pub smaller_from-found-requires : goal.smaller_from-found-requires

@@ -23,8 +23,8 @@ loop-var-preserved c =
     record {
       long = length-set kept i (get_or ordered j false) ∙ c.loop-var.invariant.long;
       freed = λ k h. one_more (λ n. IsSame (set kept i (get_or ordered j false)) ordered (get_or c.args.vars.now n (0, 0)).0) c.loop-var.var-index k h
-      (λ n l. stays_same kept ordered i j s (get_or c.args.vars.now n (0, 0)).0 e f below (c.loop-var.invariant.freed n l))
-      (freed_here kept ordered i j s e f below);
+          (λ n l. stays_same kept ordered i j s (get_or c.args.vars.now n (0, 0)).0 e f below (c.loop-var.invariant.freed n l))
+          (freed_here kept ordered i j s e f below);
       stays = λ t h. stays_same kept ordered i j s t e f below (c.loop-var.invariant.stays t h);
       keeps = λ t own h. keeps_on kept ordered i j s t e f below own (c.loop-var.invariant.keeps t own h);
     }

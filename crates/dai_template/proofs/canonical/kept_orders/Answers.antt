@@ -21,6 +21,6 @@ loop-literal-preserved c =
       long = c.free_types.ensures.long ∙ c.loop-literal.invariant.long;
       keeps = λ t below own. c.free_types.ensures.keeps t own (c.loop-literal.invariant.keeps t below own);
       freed = λ k h. one_more (λ n. AreAsOrdered c.free_types.new.kept c.args.ordered.now (get_or atoms (get_or c.args.literals.now n 0 / 2) no_atom)) c.loop-literal.literal-index k h
-      (λ n l. as_ordered_on c.loop-literal.kept c.free_types.new.kept c.args.ordered.now (get_or atoms (get_or c.args.literals.now n 0 / 2) no_atom) c.free_types.ensures.stays (c.loop-literal.invariant.freed n l))
-      (subst (AreAsOrdered c.free_types.new.kept c.args.ordered.now) (sym (literal_atom c.args.shape.now.atoms.items (get_or c.args.literals.now c.loop-literal.literal-index 0) c.from.result c.index.result.now c.from.ensures (c.requires.inside c.loop-literal.literal-index 0 c.loop-literal-test.true) c.index.ensures)) c.free_types.ensures.freed);
+          (λ n l. as_ordered_on c.loop-literal.kept c.free_types.new.kept c.args.ordered.now (get_or atoms (get_or c.args.literals.now n 0 / 2) no_atom) c.free_types.ensures.stays (c.loop-literal.invariant.freed n l))
+          (subst (AreAsOrdered c.free_types.new.kept c.args.ordered.now) (sym (literal_atom c.args.shape.now.atoms.items (get_or c.args.literals.now c.loop-literal.literal-index 0) c.from.result c.index.result.now c.from.ensures (c.requires.inside c.loop-literal.literal-index 0 c.loop-literal-test.true) c.index.ensures)) c.free_types.ensures.freed);
     }

@@ -11,10 +11,10 @@ returns-then-from-atoms c =
     record {
       bounds = c.requires.bounds;
       is = two_literals links c.requires.bounds c.args.space.now c.empty.result c.with.result c.with-then-from-atoms.result shape c.args.first c.args.second c.requires.is
-      (let a = c.if-shape-len.false in let b = c.len.ensures in omega (arith, a, b, same))
-      (c.index.ensures ∙ ap (λ k. get_or shapes k shape) (sym same))
-      c.empty.ensures.literals c.with.ensures.shape c.with.ensures.literals c.with-then-from-atoms.ensures.shape c.with-then-from-atoms.ensures.literals
-      c.if-first-second.true
-      (let a = c.if-from-atoms.true in let b = c.from.ensures in let d = c.len-atoms.ensures in omega (arith, a, b, d))
-      c.requires.pairs;
+          (let a = c.if-shape-len.false in let b = c.len.ensures in omega (arith, a, b, same))
+          (c.index.ensures ∙ ap (λ k. get_or shapes k shape) (sym same))
+          c.empty.ensures.literals c.with.ensures.shape c.with.ensures.literals c.with-then-from-atoms.ensures.shape c.with-then-from-atoms.ensures.literals
+          c.if-first-second.true
+          (let a = c.if-from-atoms.true in let b = c.from.ensures in let d = c.len-atoms.ensures in omega (arith, a, b, d))
+          c.requires.pairs;
     }

@@ -11,11 +11,11 @@ pub returns-then-left-eq0 : goal.returns-then-left-eq0
 returns-then-left-eq0 t c =
     on_ok c.add_canonical.result _ _
     (λ added P B h.
-        let own = clause_of c.args.self.now c.args.begun.now in
-        added_as P B c.args.self.now (λ d. d ≡ own) (GoesOn P own c.args.from c.args.left) c.args.clauses.now.items c.add_canonical.new.clauses.items
-        (λ d e. stays P own c.args.from c.args.left d c.if-left-eq0.true e)
-        (λ d t k. goes_nowhere P own c.args.from c.args.left d c.if-left-eq0.true k)
-        (added P B h.is))
+    let own = clause_of c.args.self.now c.args.begun.now in
+    added_as P B c.args.self.now (λ d. d ≡ own) (GoesOn P own c.args.from c.args.left) c.args.clauses.now.items c.add_canonical.new.clauses.items
+    (λ d e. stays P own c.args.from c.args.left d c.if-left-eq0.true e)
+    (λ d t k. goes_nowhere P own c.args.from c.args.left d c.if-left-eq0.true k)
+    (added P B h.is))
     c.add_canonical.ensures
 
 pub extend-requires : goal.extend-requires
