@@ -17,9 +17,14 @@ struct Kept {
 }
 
 impl Antichain {
+    ghost use Rattle.std.specs.Prelude.{◌≡◌, IfOk};
+    ghost use Rattle.dai_order.specs.Copies.{AreCopiesAmong};
+
     /// The minimal ones of clauses that stand in print order, each once. A clause below another one comes
     /// before it in print order, so one pass finds them.
-    pub fn of(alloc: Global, _space: &Space, clauses: &[Clause]) -> Result<Antichain, Spent> {
+    pub fn of(alloc: Global, _space: &Space, clauses: &[Clause]) -> Result<Antichain, Spent>
+        ensures { IfOk result (λ antichain. AreCopiesAmong antichain.clauses.items clauses.now) }
+    {
         let mut kept: Vec<Kept> = Vec::new(alloc);
         let mut minimal = Vec::new(alloc);
         for clause in clauses {
@@ -39,7 +44,9 @@ impl Antichain {
     }
 
     /// The clauses.
-    pub fn clauses(&self) -> &[Clause] {
+    pub fn clauses(&self) -> &[Clause]
+        ensures { result.now ≡ self.now.clauses.items }
+    {
         self.clauses.as_slice()
     }
 }

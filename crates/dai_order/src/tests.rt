@@ -1,5 +1,9 @@
+ghost use Rattle.std.specs.Prelude.{◌≡◌, IfOk, vec_len};
+
 use crate::antichain::Antichain;
 use crate::subsumption::subsumes;
+use dai_base::{Spent, Text};
+use dai_logic::{Block, Protocol, RelInfo, SortInfo};
 use dai_template::{Clause, Space};
 use std::alloc::Global;
 use std::test::Fail;
@@ -14,17 +18,46 @@ fn clause(literals: &[u8]) -> Clause {
     }
 }
 
-fn no_space(alloc: Global) -> Space {
-    Space {
-        shapes: Vec::new(alloc),
-        lits: 2,
-        ordered: Vec::new(alloc),
+/// One type and one relation of triples over it.
+fn triples(alloc: Global) -> Result<Protocol, Spent>
+    ensures { IfOk result (λ p. vec_len p.sorts ≡ 1) }
+{
+    let sort = SortInfo {
+        name: Text::from_bytes(alloc, b"t")?,
+        ordered: false,
+    };
+    let relation = RelInfo {
+        name: Text::from_bytes(alloc, b"r")?,
+        args: vec![in alloc; 0, 0, 0]?,
+    };
+    let init = Block {
+        params: Vec::new(alloc),
+        locals: Vec::new(alloc),
+        code: Vec::new(alloc),
+    };
+    Ok(Protocol {
+        sorts: vec![in alloc; sort]?,
+        relations: vec![in alloc; relation]?,
+        individuals: Vec::new(alloc),
+        axioms: Vec::new(alloc),
+        init,
+        actions: Vec::new(alloc),
+        invariants: Vec::new(alloc),
+    })
+}
+
+/// A space of it. The calls here are of clauses over one shape, and don't look at the space.
+fn some_space(alloc: Global) -> Result<Space, Fail> {
+    let protocol = triples(alloc)?;
+    match Space::new(alloc, &protocol, &[1], 2) {
+        Ok(space) => Ok(space),
+        Err(_) => Err("no space".into()),
     }
 }
 
 #[test]
-fn below(rt: HostRuntime) {
-    let space = no_space(rt.alloc());
+fn below(rt: HostRuntime) -> Result<(), Fail> {
+    let space = some_space(rt.alloc())?;
     let all: [&[u8]; 5] = [&[], &[1], &[0, 2], &[1, 2], &[1, 3]];
     for (left, right, below) in [
         (0, 1, true),
@@ -39,6 +72,7 @@ fn below(rt: HostRuntime) {
             assert_eq!(rt; subsumes(&space, &a, &b), below, "{left} {right}");
         }
     }
+    Ok(())
 }
 
 #[test]
@@ -53,7 +87,7 @@ fn minimal_clauses(rt: HostRuntime) -> Result<(), Fail> {
             clause(&[first, second])
         })?;
     }
-    let kept = Antichain::of(alloc, &no_space(alloc), clauses.as_slice())
+    let kept = Antichain::of(alloc, &some_space(alloc)?, clauses.as_slice())
         .ok()
         .ok_or("memory")?;
     assert_eq!(rt; kept.clauses().len(), 2);

@@ -48,26 +48,41 @@ read_first P c =
 half_below : (l n : ℕ) → l < 2 * n → l / 2 < n
 half_below l n h = let r : l % 2 < 2 = omega arith in omega arith
 
--- the text over the shape of a clause of a space is the clause's
-pub text_is : (p : Protocol) (B : Bounds) (space : Space) (c : Clause) (shape : Shape) (text : List ℕ) → IsClauseOf (protocol_of p) B space c → c.shape < length space.shapes.items → shape ≡ get_or space.shapes.items c.shape shape → (length shape.counts.items ≤ 8 → All (λ l. l / 2 < length shape.atoms.items) c.lits.items → text ≡ text_over (protocol_of p) shape.counts.items (map atom_of shape.atoms.items) c.lits.items) → text ≡ clause_text (protocol_of p) (clause_of space c)
-text_is p B space c shape text is below at h =
-    let P = protocol_of p in
-    let counts : slice_index_or (map counts_of space.shapes.items) c.shape [] ≡ shape.counts.items = get_or-map counts_of space.shapes.items c.shape shape [] below ∙ ap counts_of (sym at) in
-    let shaped : IsShape P shape = subst (IsShape P) (sym at) (is.space_of.atoms c.shape shape below) in
-    let atoms : map atom_of shape.atoms.items ≡ atoms_of P (clause_of space c).counts = shaped.atoms ∙ ap (atoms_of P) (sym counts) in
-    let long : length (clause_of space c).counts ≡ length P.sorts = is.template.one_count_each in
-    let few : length shape.counts.items ≤ 8 =
-    (let a = few_sorts p in let b = length-map p.sorts.items sort_of in let e = ap length counts in omega (arith, a, b, e, long)) in
-    let inside : All (λ l. l / 2 < length shape.atoms.items) c.lits.items =
+shape_counts : (space : Space) (c : Clause) (shape : Shape) → c.shape < length space.shapes.items → shape ≡ get_or space.shapes.items c.shape shape → slice_index_or (map counts_of space.shapes.items) c.shape [] ≡ shape.counts.items
+shape_counts space c shape below at = get_or-map counts_of space.shapes.items c.shape shape [] below ∙ ap counts_of (sym at)
+
+shape_atoms : (p : Protocol) (B : Bounds) (space : Space) (c : Clause) (shape : Shape) → IsClauseOf (protocol_of p) B space c → shape ≡ get_or space.shapes.items c.shape shape → map atom_of shape.atoms.items ≡ atoms_of (protocol_of p) (clause_of space c).counts
+shape_atoms p B space c shape is at =
+    let shaped : IsShape (protocol_of p) shape = subst (IsShape (protocol_of p)) (sym at) (is.space_of.atoms c.shape shape is.shape) in
+    shaped.atoms ∙ ap (atoms_of (protocol_of p)) (sym (shape_counts space c shape is.shape at))
+
+-- the shape of a clause of a space has few types, and the atoms of the clause's literals
+pub few_types : (p : Protocol) (B : Bounds) (space : Space) (c : Clause) (shape : Shape) → IsClauseOf (protocol_of p) B space c → shape ≡ get_or space.shapes.items c.shape shape → length shape.counts.items ≤ 8
+few_types p B space c shape is at =
+    let a = few_sorts p in
+    let b = length-map p.sorts.items sort_of in
+    let e = ap length (shape_counts space c shape is.shape at) in
+    let long = is.template.one_count_each in
+    omega (arith, a, b, e, long)
+
+pub inside_shape : (p : Protocol) (B : Bounds) (space : Space) (c : Clause) (shape : Shape) (literals : List ℕ) → IsClauseOf (protocol_of p) B space c → shape ≡ get_or space.shapes.items c.shape shape → literals ≡ c.lits.items → All (λ l. l / 2 < length shape.atoms.items) literals
+inside_shape p B space c shape literals is at same =
+    subst (All (λ l. l / 2 < length shape.atoms.items)) (sym same)
     (λ k d here.
     let l = is.template.of_the_shape k d here in
-    let e = ap length atoms in
+    let e = ap length (shape_atoms p B space c shape is at) in
     let many = length-map shape.atoms.items atom_of in
-    half_below (get_or c.lits.items k d) (length shape.atoms.items) (omega (arith, l, e, many))) in
-    h few inside
-    ∙ (ap (λ (ns : List ℕ). text_over P ns (map atom_of shape.atoms.items) c.lits.items) (sym counts)
-    ∙ (ap (λ xs. text_over P (clause_of space c).counts xs c.lits.items) atoms
-    ∙ (ap (λ (n : ℕ). text_of_types P (clause_of space c) n) long ∙ read_first P (clause_of space c))))
+    half_below (get_or c.lits.items k d) (length shape.atoms.items) (omega (arith, l, e, many)))
+
+-- the text over the shape of a clause of a space is the clause's
+pub text_is : (p : Protocol) (B : Bounds) (space : Space) (c : Clause) (shape : Shape) (literals text : List ℕ) → IsClauseOf (protocol_of p) B space c → shape ≡ get_or space.shapes.items c.shape shape → literals ≡ c.lits.items → text ≡ text_over (protocol_of p) shape.counts.items (map atom_of shape.atoms.items) literals → text ≡ clause_text (protocol_of p) (clause_of space c)
+text_is p B space c shape literals text is at same h =
+    let P = protocol_of p in
+    h
+    ∙ (ap (text_over P shape.counts.items (map atom_of shape.atoms.items)) same
+    ∙ (ap (λ (ns : List ℕ). text_over P ns (map atom_of shape.atoms.items) c.lits.items) (sym (shape_counts space c shape is.shape at))
+    ∙ (ap (λ xs. text_over P (clause_of space c).counts xs c.lits.items) (shape_atoms p B space c shape is at)
+    ∙ (ap (λ (n : ℕ). text_of_types P (clause_of space c) n) is.template.one_count_each ∙ read_first P (clause_of space c)))))
 
 pub line_at : (space : Space) (kept : List Clause) (i : ℕ) (c : Clause) → i < length kept → c ≡ get_or kept i c → (let z : ℕ × Clauses.Clause = (1 + i, clause_of space c) in z) ≡ get_or (enumerate_from 1 (map (clause_of space) kept)) i (1 + i, clause_of space c)
 line_at space kept i c below is =

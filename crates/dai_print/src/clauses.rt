@@ -2,12 +2,11 @@
 ghost use Rattle.std.specs.Prelude.{◌≡◌, ◌≤◌, ◌<◌, ◌*◌, ◌/◌, ◌++◌, [], map, length, codes, if◌then◌else◌, IfOk, OnOk};
 ghost use Rattle.std.specs.List.{All};
 ghost use Rattle.dai_model.specs.Clause.{literal_among};
-ghost use Rattle.dai_model.specs.Template.{Bounds};
 ghost use Rattle.dai_model.specs.Report.{clause_text as clause_text_of, literal_text as literal_text_of, arguments_text, body_text, variable_text as variable_text_of, relation_name as relation_name_of, individual_name as individual_name_of};
 ghost use Rattle.dai_logic.specs.Protocols.{protocol_of};
 ghost use Rattle.dai_template.specs.Atoms.{atom_of, variable_of, lists_of};
-ghost use Rattle.dai_template.specs.Spaces.{clause_of, IsClauseOf};
-ghost use Rattle.dai_print.specs.Texts.{text_over};
+ghost use Rattle.dai_template.specs.Spaces.{clause_of};
+ghost use Rattle.dai_print.specs.Texts.{text_over, IsPrintable};
 
 use crate::guards::{binders, guards};
 use crate::joining::{add_framed, add_joined};
@@ -25,22 +24,20 @@ pub fn clause_text(
     space: &Space,
     clause: &Clause,
 ) -> Result<Vec<u8>, Spent>
-    ensures { IfOk result (λ text. (B : Bounds) → IsClauseOf (protocol_of protocol.now) B space.now clause.now → text.items ≡ clause_text_of (protocol_of protocol.now) (clause_of space.now clause.now)) }
+    requires { IsPrintable (protocol_of protocol.now) space.now clause.now }
+    ensures { IfOk result (λ text. text.items ≡ clause_text_of (protocol_of protocol.now) (clause_of space.now clause.now)) }
 {
-    match space.shapes.get(clause.shape as usize) {
-        Some(shape) => text_of(alloc, protocol, shape, clause.lits.as_slice()),
-        None => Ok(Vec::new(alloc)),
-    }
+    let shape = &space.shapes[clause.shape as usize];
+    text_of(alloc, protocol, shape, clause.lits.as_slice())
 }
 
-/// The text of a clause of the shape with these literals. A shape has at most eight types.
+/// The text of a clause of the shape with these literals.
 fn text_of(alloc: Global, protocol: &Protocol, shape: &Shape, lits: &[u8]) -> Result<Vec<u8>, Spent>
-    ensures { IfOk result (λ text. length shape.now.counts.items ≤ 8 → All (λ l. l / 2 < length shape.now.atoms.items) lits.now → text.items ≡ text_over (protocol_of protocol.now) shape.now.counts.items (map atom_of shape.now.atoms.items) lits.now) }
+    requires few { length shape.now.counts.items ≤ 8 }
+    requires inside { All (λ l. l / 2 < length shape.now.atoms.items) lits.now }
+    ensures { IfOk result (λ text. text.items ≡ text_over (protocol_of protocol.now) shape.now.counts.items (map atom_of shape.now.atoms.items) lits.now) }
 {
     let mut text = Vec::new(alloc);
-    if shape.counts.len() > 8 {
-        return Ok(text);
-    }
     let variables = binders(alloc, protocol, &shape.counts)?;
     add_framed(&mut text, b"forall ", b", ", b". ", &variables)?;
     let apart = guards(alloc, protocol, &shape.counts)?;
@@ -68,7 +65,8 @@ fn literal_texts(
     atoms: &[Atom],
     lits: &[u8],
 ) -> Result<Vec<Vec<u8>>, Spent>
-    ensures { IfOk result (λ pieces. All (λ l. l / 2 < length atoms.now) lits.now → lists_of pieces.items ≡ map (λ l. literal_text_of (protocol_of protocol.now) (literal_among (map atom_of atoms.now) l)) lits.now) }
+    requires { All (λ l. l / 2 < length atoms.now) lits.now }
+    ensures { IfOk result (λ pieces. lists_of pieces.items ≡ map (λ l. literal_text_of (protocol_of protocol.now) (literal_among (map atom_of atoms.now) l)) lits.now) }
 {
     let mut pieces = Vec::new(alloc);
     for literal in lits {
@@ -84,12 +82,11 @@ fn text_at(
     atoms: &[Atom],
     literal: u8,
 ) -> Result<Vec<u8>, Spent>
-    ensures { IfOk result (λ text. literal / 2 < length atoms.now → text.items ≡ literal_text_of (protocol_of protocol.now) (literal_among (map atom_of atoms.now) literal)) }
+    requires { literal / 2 < length atoms.now }
+    ensures { IfOk result (λ text. text.items ≡ literal_text_of (protocol_of protocol.now) (literal_among (map atom_of atoms.now) literal)) }
 {
-    match atoms.get(usize::from(literal / 2)) {
-        Some(atom) => literal_text(alloc, protocol, atom, literal % 2 == 1),
-        None => Ok(Vec::new(alloc)),
-    }
+    let atom = &atoms[usize::from(literal / 2)];
+    literal_text(alloc, protocol, atom, literal % 2 == 1)
 }
 
 /// The literal over the atom.

@@ -1,10 +1,10 @@
 //! The report.
 ghost use Rattle.std.specs.Prelude.{◌≡◌, ◌++◌, ◌+◌, ◌<◌, ◌^◌, ℕ, List, [], map, length, codes, IfOk, OnOk};
-ghost use Rattle.std.specs.List.{All, flat_map, enumerate_from};
-ghost use Rattle.dai_model.specs.Template.{Bounds};
+ghost use Rattle.std.specs.List.{flat_map, enumerate_from};
 ghost use Rattle.dai_model.specs.Report.{clause_line as clause_line_of, label_of, verdict_line, report_of};
 ghost use Rattle.dai_logic.specs.Protocols.{protocol_of};
-ghost use Rattle.dai_template.specs.Spaces.{clause_of, IsClauseOf};
+ghost use Rattle.dai_template.specs.Spaces.{clause_of};
+ghost use Rattle.dai_print.specs.Texts.{IsPrintable, ArePrintable};
 
 use crate::clauses::clause_text;
 use dai_base::Spent;
@@ -21,7 +21,8 @@ pub fn report_text(
     kept: &[Clause],
     missing: &[u32],
 ) -> Result<Vec<u8>, Spent>
-    ensures { IfOk result (λ text. (B : Bounds) → All (IsClauseOf (protocol_of protocol.now) B space.now) kept.now → text.items ≡ report_of (protocol_of protocol.now) (map (clause_of space.now) kept.now) missing.now) }
+    requires { ArePrintable (protocol_of protocol.now) space.now kept.now }
+    ensures { IfOk result (λ text. text.items ≡ report_of (protocol_of protocol.now) (map (clause_of space.now) kept.now) missing.now) }
 {
     let mut text = Vec::new(alloc);
     let mut number: u64 = 1;
@@ -42,7 +43,8 @@ fn add_line(
     clause: &Clause,
     text: &mut Vec<u8>,
 ) -> Result<(), Spent>
-    ensures { OnOk result ((B : Bounds) → IsClauseOf (protocol_of protocol.now) B space.now clause.now → text.new.items ≡ text.old.items ++ clause_line_of (protocol_of protocol.now) (number, clause_of space.now clause.now)) }
+    requires { IsPrintable (protocol_of protocol.now) space.now clause.now }
+    ensures { OnOk result (text.new.items ≡ text.old.items ++ clause_line_of (protocol_of protocol.now) (number, clause_of space.now clause.now)) }
 {
     let head = format!(in alloc; "invariant [d{number}] ")?;
     text.extend_from_slice(head.as_bytes())?;

@@ -35,7 +35,7 @@ judged_of P B space clause shape s ordered literals h fits is o l =
       few = λ t. let a = ap (λ xs. slice_index xs t) same in let b = h.template.few_variables t in let k = small B.variables t h.space_of.few_variables (cases_lt t (length B.variables)) in omega (arith, a, b, k);
     }
 
-none_before : (t i : ℕ) → Before t i 0 0 → ⊥
+pub none_before : (t i : ℕ) → Before t i 0 0 → ⊥
 none_before t i (inl h) = absurd (omega arith)
 none_before t i (inr h) = let k = h.1 in absurd (omega (arith, k))
 

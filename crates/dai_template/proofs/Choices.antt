@@ -6,12 +6,12 @@ use Rattle.std.proofs.lemmas.Bool.{cases_lt}
 use Rattle.std.proofs.lemmas.List.{get_or-map, get_or-set_same, get_or-set_other, length-set, get_or_default}
 use Rattle.std.proofs.lemmas.Option.{get_or_from_slice_get}
 use Rattle.dai_model.specs.Protocol.{Protocol, Sort}
-use Rattle.dai_model.specs.Placement.{Apart, of_sort}
-use Rattle.dai_model.specs.Clause.{Atom, literal_among}
+use Rattle.dai_model.specs.Placement.{Apart, of_sort, ArePlacements}
+use Rattle.dai_model.specs.Clause.{Atom, literal_among, literal_value}
 use Rattle.dai_model.proofs.Typed.{slice_get-length}
 use Rattle.dai_logic.specs.declared.structure.Structure.{Structure}
 use Rattle.dai_logic.specs.Tables.{structure_of}
-use Rattle.dai_template.specs.Meeting.{literal_in, Before, IsBegun, IsJudged, IsMetFrom, MayStand}
+use Rattle.dai_template.specs.Meeting.{literal_in, Before, Agree, IsBegun, IsJudged, IsMetFrom, MayStand}
 use Rattle.dai_template.proofs.MetFrom.{at_end, count_inside}
 
 pub begun_end : (P : Protocol) (sizes counts : List ℕ) (sort number : ℕ) (values : List ℕ) → sort ≡ length counts → IsBegun P sizes counts sort number values → IsBegun P sizes counts (length counts) 0 values
@@ -55,7 +55,7 @@ wider t i sort number (inl below) = inl below
 wider t i sort number (inr here) = inr (here.0, let h = here.1 in omega (arith, h))
 
 -- the order of the type
-order_at : (Ts : List Sort) (sort : ℕ) (T : Sort) (orders : List Bool) → slice_get Ts sort ≡ Some T → orders ≡ map (λ (U : Sort). U.ordered) Ts → get_or orders sort false ≡ T.ordered
+pub order_at : (Ts : List Sort) (sort : ℕ) (T : Sort) (orders : List Bool) → slice_get Ts sort ≡ Some T → orders ≡ map (λ (U : Sort). U.ordered) Ts → get_or orders sort false ≡ T.ordered
 order_at Ts sort T orders h e =
     ap (λ os. get_or os sort false) e
     ∙ (get_or-map (λ (U : Sort). U.ordered) Ts sort T false (slice_get-length Ts sort T h) ∙ ap (λ (U : Sort). U.ordered) (get_or_from_slice_get Ts sort T T h))
@@ -63,8 +63,15 @@ order_at Ts sort T orders h e =
 moved : (a b : Bool) (d e x y : ℕ) → a ≡ b → d ≡ x → e ≡ y → Apart a d e → Apart b x y
 moved a b d e x y f g h k = subst (λ t. Apart t x y) f (subst (λ t. Apart a t y) g (subst (λ t. Apart a d t) h k))
 
-pub chosen_begun : (P : Protocol) (orders : List Bool) (counts : List ℕ) (atoms : List Atom) (literals : List ℕ) (s : Structure) (sort number e : ℕ) (values : List ℕ) → IsJudged P orders counts atoms literals s → IsBegun P s.sizes.items counts sort number values → number < slice_index counts sort → e < slice_index s.sizes.items sort → MayStand (get_or orders sort false) sort number e values → IsBegun P s.sizes.items counts sort (number + 1) (set values (4 * sort + number) e)
-chosen_begun P orders counts atoms literals s sort number e values j b room below may = record {
+-- which of the types are ordered, and few variables
+pub record IsSearched (P : Protocol) (orders : List Bool) (counts : List ℕ) : Type 0 where
+  pub orders_are : (t : ℕ) (T : Sort) → slice_get P.sorts t ≡ Some T → get_or orders t false ≡ T.ordered
+  pub each : length counts ≡ length P.sorts
+  pub few_types : length counts ≤ 8
+  pub few : (t : ℕ) → slice_index counts t ≤ 4
+
+pub choice_begun : (P : Protocol) (orders : List Bool) (counts sizes : List ℕ) (sort number e : ℕ) (values : List ℕ) → IsSearched P orders counts → IsBegun P sizes counts sort number values → number < slice_index counts sort → e < slice_index sizes sort → MayStand (get_or orders sort false) sort number e values → IsBegun P sizes counts sort (number + 1) (set values (4 * sort + number) e)
+choice_begun P orders counts sizes sort number e values j b room below may = record {
   long = length-set values (4 * sort + number) e ∙ b.long;
   inside = λ t i h before. inside_at t i h (split t i sort number before);
   apart = λ t T i k f h l before. apart_at t T i k f h l (split t k sort number before);
@@ -73,11 +80,11 @@ chosen_begun P orders counts atoms literals s sort number e values j b room belo
     own : get_or (set values (4 * sort + number) e) (4 * sort + number) 0 ≡ e
     own = read_same counts values sort number e b.long j.few_types j.few room
 
-    inside_at : (t i : ℕ) → i < slice_index counts t → Before t i sort number ⊎ ((t ≡ sort) × (i ≡ number)) → slice_index (set values (4 * sort + number) e) (4 * t + i) < slice_index s.sizes.items t
-    inside_at t i h (inl before) = subst (λ x. x < slice_index s.sizes.items t) (sym (read_other counts values t i sort number e j.few h before)) (b.inside t i h before)
+    inside_at : (t i : ℕ) → i < slice_index counts t → Before t i sort number ⊎ ((t ≡ sort) × (i ≡ number)) → slice_index (set values (4 * sort + number) e) (4 * t + i) < slice_index sizes t
+    inside_at t i h (inl before) = subst (λ x. x < slice_index sizes t) (sym (read_other counts values t i sort number e j.few h before)) (b.inside t i h before)
     inside_at t i h (inr here) =
         let at : slice_index (set values (4 * sort + number) e) (4 * t + i) ≡ e = ap (λ k. get_or (set values (4 * sort + number) e) k 0) (let a = here.0 in let c = here.1 in let same : 4 * t + i ≡ 4 * sort + number = omega (arith, a, c) in same) ∙ own in
-        subst (λ u. slice_index (set values (4 * sort + number) e) (4 * t + i) < slice_index s.sizes.items u) (sym here.0) (subst (λ x. x < slice_index s.sizes.items sort) (sym at) below)
+        subst (λ u. slice_index (set values (4 * sort + number) e) (4 * t + i) < slice_index sizes u) (sym here.0) (subst (λ x. x < slice_index sizes sort) (sym at) below)
 
     apart_at : (t : ℕ) (T : Sort) (i k : ℕ) → slice_get P.sorts t ≡ Some T → i < k → k < slice_index counts t → Before t k sort number ⊎ ((t ≡ sort) × (k ≡ number)) → Apart T.ordered (slice_index (set values (4 * sort + number) e) (4 * t + i)) (slice_index (set values (4 * sort + number) e) (4 * t + k))
     apart_at t T i k f h l (inl before) =
@@ -89,25 +96,29 @@ chosen_begun P orders counts atoms literals s sort number e values j b room belo
     apart_at t T i k f h l (inr here) =
         let at : slice_index (set values (4 * sort + number) e) (4 * t + k) ≡ e = ap (λ x. get_or (set values (4 * sort + number) e) x 0) (let a = here.0 in let c = here.1 in let same : 4 * t + k ≡ 4 * sort + number = omega (arith, a, c) in same) ∙ own in
         let earlier : i < number = let c = here.1 in omega (arith, c, h) in
-        let order : get_or orders sort false ≡ T.ordered = ap (λ u. get_or orders u false) (sym here.0) ∙ order_at P.sorts t T orders f j.orders_are in
+        let order : get_or orders sort false ≡ T.ordered = ap (λ u. get_or orders u false) (sym here.0) ∙ j.orders_are t T f in
         moved (get_or orders sort false) T.ordered _ _ _ _ order (ap (λ u. slice_index values (4 * u + i)) (sym here.0) ∙ sym (read_other counts values t i sort number e j.few (omega (arith, h, l)) (inr (here.0, earlier)))) (sym at) (may i earlier)
 
-pub chosen_exact : (P : Protocol) (orders : List Bool) (counts : List ℕ) (atoms : List Atom) (literals : List ℕ) (s : Structure) (sort number e : ℕ) (values : List ℕ) → IsJudged P orders counts atoms literals s → IsMetFrom P counts atoms literals s sort number values → IsMetFrom P counts atoms literals s sort (number + 1) (set values (4 * sort + number) e)
-chosen_exact P orders counts atoms literals s sort number e values j met elements placed agree =
-    met elements placed (λ t i h before. agree t i h (wider t i sort number before) ∙ read_other counts values t i sort number e j.few h before)
+-- whatever the other variables stand for, the placement has the property
+abbrev pub FromHere : Protocol → List ℕ → List ℕ → (List (List ℕ) → Type 0) → ℕ → ℕ → List ℕ → Type 0
+FromHere P counts sizes Q sort number values = (elements : List (List ℕ)) → ArePlacements P counts sizes elements → Agree counts sort number elements values → Q elements
 
-sort_at : (Ts : List Sort) (sort : ℕ) → sort < length Ts → (T : Sort) × (slice_get Ts sort ≡ Some T)
+pub choice_exact : (P : Protocol) (counts sizes : List ℕ) (Q : List (List ℕ) → Type 0) (sort number e : ℕ) (values : List ℕ) → ((t : ℕ) → slice_index counts t ≤ 4) → FromHere P counts sizes Q sort number values → FromHere P counts sizes Q sort (number + 1) (set values (4 * sort + number) e)
+choice_exact P counts sizes Q sort number e values few met elements placed agree =
+    met elements placed (λ t i h before. agree t i h (wider t i sort number before) ∙ read_other counts values t i sort number e few h before)
+
+pub sort_at : (Ts : List Sort) (sort : ℕ) → sort < length Ts → (T : Sort) × (slice_get Ts sort ≡ Some T)
 sort_at [] sort h = absurd (omega arith)
 sort_at (T ∷ Ts) zero h = (T, refl)
 sort_at (T ∷ Ts) (suc sort) h = sort_at Ts sort (omega arith)
 
-pub chosen_only : (P : Protocol) (orders : List Bool) (counts : List ℕ) (atoms : List Atom) (literals : List ℕ) (s : Structure) (sort number : ℕ) (values : List ℕ) → IsJudged P orders counts atoms literals s → IsBegun P s.sizes.items counts sort number values → number < slice_index counts sort → ((e : ℕ) → e < slice_index s.sizes.items sort → MayStand (get_or orders sort false) sort number e values → IsMetFrom P counts atoms literals s sort (number + 1) (set values (4 * sort + number) e)) → IsMetFrom P counts atoms literals s sort number values
-chosen_only P orders counts atoms literals s sort number values j b room h elements placed agree =
+pub choice_only : (P : Protocol) (orders : List Bool) (counts sizes : List ℕ) (Q : List (List ℕ) → Type 0) (sort number : ℕ) (values : List ℕ) → IsSearched P orders counts → IsBegun P sizes counts sort number values → number < slice_index counts sort → ((e : ℕ) → e < slice_index sizes sort → MayStand (get_or orders sort false) sort number e values → FromHere P counts sizes Q sort (number + 1) (set values (4 * sort + number) e)) → FromHere P counts sizes Q sort number values
+choice_only P orders counts sizes Q sort number values j b room h elements placed agree =
     let below = count_inside counts sort number room in
     let found = sort_at P.sorts sort (let k = j.each in omega (arith, k, below)) in
     let here = placed.each sort found.0 found.1 in
     let e = slice_index (of_sort elements sort) number in
-    let order : found.0.ordered ≡ get_or orders sort false = sym (order_at P.sorts sort found.0 orders found.1 j.orders_are) in
+    let order : found.0.ordered ≡ get_or orders sort false = sym (j.orders_are sort found.0 found.1) in
     h e (here.inside number room)
     (λ i k. moved found.0.ordered (get_or orders sort false) _ _ _ _ order (agree sort i (omega (arith, k, room)) (inr (refl, k))) refl (here.apart i number k room))
     elements placed
@@ -118,6 +129,23 @@ chosen_only P orders counts atoms literals s sort number values j b room h eleme
     agrees elements t i k agree own e same (inr here) =
         ap (λ u. slice_index (of_sort elements u) i) here.0 ∙ (ap (λ u. slice_index (of_sort elements sort) u) here.1
         ∙ (sym own ∙ ap (λ x. get_or (set values (4 * sort + number) (slice_index (of_sort elements sort) number)) x 0) (let a = here.0 in let c = here.1 in let place : 4 * sort + number ≡ 4 * t + i = omega (arith, a, c) in place)))
+
+pub searched : (P : Protocol) (orders : List Bool) (counts : List ℕ) (atoms : List Atom) (literals : List ℕ) (s : Structure) → IsJudged P orders counts atoms literals s → IsSearched P orders counts
+searched P orders counts atoms literals s j = record {
+  orders_are = λ t T h. order_at P.sorts t T orders h j.orders_are;
+  each = j.each;
+  few_types = j.few_types;
+  few = j.few;
+}
+
+pub chosen_begun : (P : Protocol) (orders : List Bool) (counts : List ℕ) (atoms : List Atom) (literals : List ℕ) (s : Structure) (sort number e : ℕ) (values : List ℕ) → IsJudged P orders counts atoms literals s → IsBegun P s.sizes.items counts sort number values → number < slice_index counts sort → e < slice_index s.sizes.items sort → MayStand (get_or orders sort false) sort number e values → IsBegun P s.sizes.items counts sort (number + 1) (set values (4 * sort + number) e)
+chosen_begun P orders counts atoms literals s sort number e values j b room below may = choice_begun P orders counts s.sizes.items sort number e values (searched P orders counts atoms literals s j) b room below may
+
+pub chosen_exact : (P : Protocol) (orders : List Bool) (counts : List ℕ) (atoms : List Atom) (literals : List ℕ) (s : Structure) (sort number e : ℕ) (values : List ℕ) → IsJudged P orders counts atoms literals s → IsMetFrom P counts atoms literals s sort number values → IsMetFrom P counts atoms literals s sort (number + 1) (set values (4 * sort + number) e)
+chosen_exact P orders counts atoms literals s sort number e values j met = choice_exact P counts s.sizes.items (λ elements. list_any (literal_value (structure_of P s) elements) (map (literal_among atoms) literals) ≡ true) sort number e values j.few met
+
+pub chosen_only : (P : Protocol) (orders : List Bool) (counts : List ℕ) (atoms : List Atom) (literals : List ℕ) (s : Structure) (sort number : ℕ) (values : List ℕ) → IsJudged P orders counts atoms literals s → IsBegun P s.sizes.items counts sort number values → number < slice_index counts sort → ((e : ℕ) → e < slice_index s.sizes.items sort → MayStand (get_or orders sort false) sort number e values → IsMetFrom P counts atoms literals s sort (number + 1) (set values (4 * sort + number) e)) → IsMetFrom P counts atoms literals s sort number values
+chosen_only P orders counts atoms literals s sort number values j b room h = choice_only P orders counts s.sizes.items (λ elements. list_any (literal_value (structure_of P s) elements) (map (literal_among atoms) literals) ≡ true) sort number values (searched P orders counts atoms literals s j) b room h
 
 pub room_left : (counts : List ℕ) (sort number i n : ℕ) → sort < length counts → i ≡ sort → n ≡ get_or counts i n → number ≤ slice_index counts sort → (number ≡ n → ⊥) → number < slice_index counts sort
 room_left counts sort number i n below same is most other =

@@ -17,3 +17,17 @@ pub mod Truth
 pub mod MetFrom
 pub mod Choices
 pub mod Asked
+pub mod Places
+pub mod Within
+pub mod AtomPlaces
+pub mod InOrder
+pub mod Renamed
+pub mod Images
+pub mod Sought
+pub mod LiteralOrder
+pub mod Least
+pub mod Parts
+pub mod SpaceShapes
+pub mod Freed
+pub mod Kept
+pub mod LinksFit

@@ -24,7 +24,7 @@ count_inside (c ∷ counts) zero number h = omega arith
 count_inside (c ∷ counts) (suc sort) number h = let k = count_inside counts sort number h in omega (arith, k)
 
 -- the elements of the array as lists
-abbrev cut : List ℕ → List ℕ → List (List ℕ)
+abbrev pub cut : List ℕ → List ℕ → List (List ℕ)
 cut counts values = map (λ t. map (λ i. slice_index values (4 * t + i)) (numbers_below (slice_index counts t))) (numbers_below (length counts))
 
 cut_of : (counts values : List ℕ) (t : ℕ) → t < length counts → of_sort (cut counts values) t ≡ map (λ i. slice_index values (4 * t + i)) (numbers_below (slice_index counts t))
@@ -34,7 +34,7 @@ cut_of counts values t h =
     get_or-map (λ u. map (λ i. slice_index values (4 * u + i)) (numbers_below (slice_index counts u))) (numbers_below (length counts)) t 0 [] (omega (arith, long, h))
     ∙ ap (λ u. map (λ i. slice_index values (4 * u + i)) (numbers_below (slice_index counts u))) at
 
-cut_at : (counts values : List ℕ) (t i : ℕ) → i < slice_index counts t → slice_index (of_sort (cut counts values) t) i ≡ slice_index values (4 * t + i)
+pub cut_at : (counts values : List ℕ) (t i : ℕ) → i < slice_index counts t → slice_index (of_sort (cut counts values) t) i ≡ slice_index values (4 * t + i)
 cut_at counts values t i k =
     let below = count_inside counts t i k in
     let long = numbers_below-length (slice_index counts t) in
@@ -47,7 +47,7 @@ kept : (a : Bool) (d e x y : ℕ) → d ≡ x → e ≡ y → Apart a d e → Ap
 kept a d e x y g h k = subst (λ t. Apart a t y) g (subst (λ t. Apart a d t) h k)
 
 -- where all variables have elements, the array is a placement
-cut_placed : (P : Protocol) (sizes counts values : List ℕ) → length counts ≡ length P.sorts → IsBegun P sizes counts (length counts) 0 values → ArePlacements P counts sizes (cut counts values)
+pub cut_placed : (P : Protocol) (sizes counts values : List ℕ) → length counts ≡ length P.sorts → IsBegun P sizes counts (length counts) 0 values → ArePlacements P counts sizes (cut counts values)
 cut_placed P sizes counts values long b = record {
   one_list_each = length-map (numbers_below (length counts)) _ ∙ (numbers_below-length (length counts) ∙ long);
   each = λ sort T h.
@@ -82,7 +82,7 @@ literals_same S counts elements values (l ∷ ls) h e =
     cc
 
 -- the variables stand for a tuple of their types
-tuple_in : (sizes counts values : List ℕ) (vs : List Variable) → ((v : Variable) → IsVariableOf counts v → element_in values v < slice_index sizes v.sort) → Each (IsVariableOf counts) vs → is_tuple sizes (sorts_of vs) (map (element_in values) vs) ≡ true
+pub tuple_in : (sizes counts values : List ℕ) (vs : List Variable) → ((v : Variable) → IsVariableOf counts v → element_in values v < slice_index sizes v.sort) → Each (IsVariableOf counts) vs → is_tuple sizes (sorts_of vs) (map (element_in values) vs) ≡ true
 tuple_in sizes counts values [] h e = refl
 tuple_in sizes counts values (v ∷ vs) h e =
     ap (λ b. b && is_tuple sizes (sorts_of vs) (map (element_in values) vs)) (test_from_lt (element_in values v) (slice_index sizes v.sort) (h v e.0)) ∙ tuple_in sizes counts values vs h e.1

@@ -22,10 +22,10 @@ numbered n (x ∷ xs) all h = (
 enumerated : {X : Type 0} (xs : List X) → Each (λ (p : ℕ × X). slice_get xs p.0 ≡ Some p.1) (enumerate_from 0 xs)
 enumerated xs = numbered 0 xs xs (λ k. ap (slice_get xs) (let own : 0 + k ≡ k = omega arith in own))
 
-of_one_sort : (counts : List ℕ) (sort : ℕ) → Each (λ (v : Variable). v.sort ≡ sort) (variables_of counts sort)
+pub of_one_sort : (counts : List ℕ) (sort : ℕ) → Each (λ (v : Variable). v.sort ≡ sort) (variables_of counts sort)
 of_one_sort counts sort = Each-map (λ _. Unit {0}) (λ (v : Variable). v.sort ≡ sort) _ (numbers_below (slice_index counts sort)) (λ n h. refl) (any (λ _. Unit {0}) (numbers_below (slice_index counts sort)) (λ n. tt))
 
-of_the_sorts : (counts sorts : List ℕ) → Each (λ vs. sorts_of vs ≡ sorts) (choose_each (map (variables_of counts) sorts))
+pub of_the_sorts : (counts sorts : List ℕ) → Each (λ vs. sorts_of vs ≡ sorts) (choose_each (map (variables_of counts) sorts))
 of_the_sorts counts [] = (refl, tt)
 of_the_sorts counts (sort ∷ sorts) =
     Each-flat_map (λ (v : Variable). v.sort ≡ sort) (λ vs. sorts_of vs ≡ sort ∷ sorts) _ (variables_of counts sort)

@@ -38,20 +38,20 @@ numbers_up_to : (n b : ℕ) → n ≤ b + 1 → Each (λ k. k ≤ b) (numbers_be
 numbers_up_to zero b h = tt
 numbers_up_to (suc n) b h = Each-append (λ k. k ≤ b) (numbers_below n) (n ∷ []) (numbers_up_to n b (omega arith)) (omega arith, tt)
 
-ways_within : (bounds : List ℕ) → Each (λ counts. WithinEach counts bounds) (counts_within bounds)
+pub ways_within : (bounds : List ℕ) → Each (λ counts. WithinEach counts bounds) (counts_within bounds)
 ways_within [] = (tt, tt)
 ways_within (b ∷ bs) =
     Each-flat_map (λ k. k ≤ b) (λ counts. WithinEach counts (b ∷ bs)) (λ n. map (λ (t : List ℕ). n ∷ t) (counts_within bs)) (numbers_below (b + 1))
     (λ n h. Each-map (λ counts. WithinEach counts bs) (λ counts. WithinEach counts (b ∷ bs)) (λ (t : List ℕ). n ∷ t) (counts_within bs) (λ t k. (h, k)) (ways_within bs))
     (numbers_up_to (b + 1) b (omega arith))
 
-within_length : (counts bounds : List ℕ) → WithinEach counts bounds → length counts ≡ length bounds
+pub within_length : (counts bounds : List ℕ) → WithinEach counts bounds → length counts ≡ length bounds
 within_length [] [] h = refl
 within_length [] (b ∷ bs) h = absurd h
 within_length (n ∷ ns) [] h = absurd h
 within_length (n ∷ ns) (b ∷ bs) h = let k = within_length ns bs h.1 in omega (arith, k)
 
-within_at : (counts bounds : List ℕ) (sort : ℕ) → WithinEach counts bounds → slice_index counts sort ≤ slice_index bounds sort
+pub within_at : (counts bounds : List ℕ) (sort : ℕ) → WithinEach counts bounds → slice_index counts sort ≤ slice_index bounds sort
 within_at [] [] sort h = omega arith
 within_at [] (b ∷ bs) sort h = absurd h
 within_at (n ∷ ns) [] sort h = absurd h
@@ -62,13 +62,17 @@ product_mono : (f g : ℕ → ℕ) (xs : List ℕ) → ((x : ℕ) → f x ≤ g 
 product_mono f g [] h = omega arith
 product_mono f g (x ∷ xs) h = mul-le-mul (h x) (product_mono f g xs h)
 
-fewer_atoms : (P : Protocol) (counts bounds : List ℕ) → WithinEach counts bounds → length (atoms_of P counts) ≤ length (atoms_of P bounds)
-fewer_atoms P counts bounds h =
-    let a = sum_by-le-sum_by (tuples_at counts) (tuples_at bounds) P.relations (λ (R : Relation). product_mono (slice_index counts) (slice_index bounds) R.arguments (λ sort. within_at counts bounds sort h)) in
-    let b = sum_by-le-sum_by (λ (I : Individual). slice_index counts I.sort) (λ (I : Individual). slice_index bounds I.sort) P.individuals (λ (I : Individual). within_at counts bounds I.sort h) in
+-- with no more variables of any type there are no more atoms
+pub fewer_variables : (P : Protocol) (counts bounds : List ℕ) → ((sort : ℕ) → slice_index counts sort ≤ slice_index bounds sort) → length (atoms_of P counts) ≤ length (atoms_of P bounds)
+fewer_variables P counts bounds h =
+    let a = sum_by-le-sum_by (tuples_at counts) (tuples_at bounds) P.relations (λ (R : Relation). product_mono (slice_index counts) (slice_index bounds) R.arguments h) in
+    let b = sum_by-le-sum_by (λ (I : Individual). slice_index counts I.sort) (λ (I : Individual). slice_index bounds I.sort) P.individuals (λ (I : Individual). h I.sort) in
     let left = atoms_of-length P counts in
     let right = atoms_of-length P bounds in
     omega (arith, a, b, left, right)
+
+fewer_atoms : (P : Protocol) (counts bounds : List ℕ) → WithinEach counts bounds → length (atoms_of P counts) ≤ length (atoms_of P bounds)
+fewer_atoms P counts bounds h = fewer_variables P counts bounds (λ sort. within_at counts bounds sort h)
 
 pub Each-weaker : {X : Type 0} (P Q : X → Type 0) (xs : List X) → ((x : X) → P x → Q x) → Each P xs → Each Q xs
 Each-weaker P Q [] h k = tt

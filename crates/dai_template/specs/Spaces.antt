@@ -24,6 +24,15 @@ pub record IsSpaceOf (P : Protocol) (B : Bounds) (space : Space) : Type 0 where
   pub orders : space.ordered.items ≡ orders_of P
   pub few_types : length P.sorts ≤ 8
   pub few_variables : All (λ bound. bound ≤ 4) B.variables
+  pub each : length B.variables ≡ length P.sorts
+  pub few_literals : B.literals ≤ 8
+  pub few_atoms : atom_count P B ≤ 64
+
+-- a protocol's space within some bounds
+pub record IsSpace (space : Space) : Type 0 where
+  pub protocol : Protocol
+  pub bounds : Bounds
+  pub is : IsSpaceOf protocol bounds space
 
 -- the clause of the model that a clause of the space stands for
 abbrev pub clause_of : Space → Clause → Model.Clause

@@ -2,6 +2,7 @@
 #![tactic(auto)]
 
 mod atoms;
+mod canonical;
 mod clause;
 mod counting;
 mod formulas;

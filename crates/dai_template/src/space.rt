@@ -3,7 +3,7 @@ ghost use Rattle.std.specs.Prelude.{◌≡◌, ◌≤◌, ◌<◌, length, map, 
 ghost use Rattle.dai_model.specs.Protocol.{Sort};
 ghost use Rattle.dai_logic.specs.Parts.{sort_of};
 
-use crate::clause::{Atom, Clause, Shape};
+use crate::clause::{Clause, Shape};
 use crate::counting::{atom_count, template_count};
 use crate::shapes::{counts_within, in_print_order, sum_of};
 use dai_base::Spent;
@@ -18,7 +18,7 @@ pub struct Space {
     pub shapes: Vec<Shape>,
     pub lits: u8,
     /// Which of the protocol's types are ordered.
-    pub ordered: Vec<bool>,
+    pub(crate) ordered: Vec<bool>,
 }
 
 /// Why there is no space: it is past a limit.
@@ -79,7 +79,7 @@ const MOST_ATOMS: u64 = 64;
 const MOST_TEMPLATES: u128 = 200_000;
 
 impl Space {
-    ghost use Rattle.std.specs.Prelude.{OnOk, IfErr, vec_len};
+    ghost use Rattle.std.specs.Prelude.{OnOk, IfErr, vec_len, []};
     ghost use Rattle.std.specs.List.{All};
     ghost use Rattle.dai_logic.specs.Protocols.{protocol_of};
     ghost use Rattle.dai_model.specs.Protocol.{Protocol as Meaning};
@@ -135,24 +135,15 @@ impl Space {
         shapes.then(numbers).then(literals)
     }
 
-    /// The space of a protocol that declares no type and at most 64 relations: one shape, without variables,
-    /// whose atoms are the relations in order. At most ten relations are within the limits of a space.
+    /// The space of a protocol that declares no type, without limits: one shape, without variables, whose atoms are
+    /// the relations in order.
     pub fn of_flags(alloc: Global, protocol: &Protocol, lits: u8) -> Result<Space, Spent>
-        requires few { length protocol.now.relations.items ≤ 64 }
+        requires no_types { (protocol_of protocol.now).sorts ≡ [] }
         requires literals { lits ≤ 8 }
+        ensures { IfOk result (IsSpaceOf (protocol_of protocol.now) (record { variables = []; literals = lits })) }
     {
-        let mut atoms = Vec::new(alloc);
-        for rel in 0..protocol.relations.len() as u8 {
-            atoms.push(Atom::Tuple {
-                rel,
-                vars: Vec::new(alloc),
-            })?;
-        }
-        let mut shapes = Vec::new(alloc);
-        shapes.push(Shape {
-            counts: Vec::new(alloc),
-            atoms,
-        })?;
+        let ways = counts_within(alloc, &[])?;
+        let shapes = in_print_order(alloc, protocol, &ways, 0)?;
         Ok(Space {
             shapes,
             lits,

@@ -3,3 +3,4 @@ pub mod Closed
 pub mod WordLemmas
 pub mod Held
 pub mod Refusals
+pub mod Printed

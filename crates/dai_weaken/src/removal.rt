@@ -1,4 +1,5 @@
 ghost use Rattle.std.specs.Prelude.{◌≤◌, IfOk, vec_len};
+ghost use Rattle.dai_weaken.specs.Lists.{AreAmong};
 
 use crate::judge::Judge;
 use dai_base::Spent;
@@ -12,7 +13,8 @@ pub fn greatest_list<J: Judge>(
     judge: &mut J,
     start: Vec<Clause>,
 ) -> Result<Vec<Clause>, Spent>
-    ensures { IfOk result (λ kept. vec_len kept ≤ vec_len start) }
+    ensures fewer { IfOk result (λ kept. vec_len kept ≤ vec_len start) }
+    ensures among { IfOk result (λ kept. AreAmong kept.items start.items) }
 {
     let mut kept = met_at_first(alloc, judge, start)?;
     loop {
@@ -31,7 +33,8 @@ fn met_at_first<J: Judge>(
     judge: &mut J,
     clauses: Vec<Clause>,
 ) -> Result<Vec<Clause>, Spent>
-    ensures { IfOk result (λ kept. vec_len kept ≤ vec_len clauses) }
+    ensures fewer { IfOk result (λ kept. vec_len kept ≤ vec_len clauses) }
+    ensures among { IfOk result (λ kept. AreAmong kept.items clauses.items) }
 {
     let mut kept = Vec::new(alloc);
     for clause in clauses {
@@ -48,7 +51,8 @@ fn met_after_steps<J: Judge>(
     judge: &mut J,
     clauses: Vec<Clause>,
 ) -> Result<Vec<Clause>, Spent>
-    ensures { IfOk result (λ kept. vec_len kept ≤ vec_len clauses) }
+    ensures fewer { IfOk result (λ kept. vec_len kept ≤ vec_len clauses) }
+    ensures among { IfOk result (λ kept. AreAmong kept.items clauses.items) }
 {
     let mut kept = Vec::new(alloc);
     for clause in clauses {

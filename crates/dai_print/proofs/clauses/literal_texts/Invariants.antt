@@ -9,4 +9,4 @@ use Rattle.dai_template.specs.Atoms.{lists_of, atom_of}
 use Rattle.dai_print.proofs.clauses.literal_texts.Given as goal
 
 abbrev pub invariant-loop-literal : goal.invariant-loop-literal
-invariant-loop-literal l = All (λ k. k / 2 < length l.atoms) l.lits → lists_of l.pieces.items ≡ map (λ k. literal_text (protocol_of l.protocol) (literal_among (map atom_of l.atoms) k)) (take l.literal-index l.lits)
+invariant-loop-literal l = lists_of l.pieces.items ≡ map (λ k. literal_text (protocol_of l.protocol) (literal_among (map atom_of l.atoms) k)) (take l.literal-index l.lits)

@@ -9,8 +9,11 @@ use Rattle.dai_template.specs.Atoms.{atom_of, lists_of}
 use Rattle.dai_print.proofs.Pieces.{three_parts}
 use Rattle.dai_print.proofs.clauses.text_of.Goals as goal
 
+pub literal_texts-requires : goal.literal_texts-requires
+literal_texts-requires c = subst (λ (xs : List Atom). All (λ l. l / 2 < length xs) c.args.lits.now) (sym c.deref-5.ensures.value) c.requires.inside
+
 pub returns : goal.returns
-returns c few inside =
+returns c =
     let P = protocol_of c.args.protocol.now in
     let counts = c.args.shape.now.counts.items in
     let bound = map (binder_text P) (flat_map (variables_of counts) (numbers_below (length counts))) in
@@ -20,9 +23,8 @@ returns c few inside =
     ap lists_of c.deref-2.ensures.value ∙ (c.in_ok-variables.ensures ∙ ap (λ (ns : List ℕ). map (binder_text P) (flat_map (variables_of ns) (numbers_below (length ns)))) c.deref.ensures.value) in
     let is_guarded : lists_of c.deref-4.result.now ≡ guarded =
     ap lists_of c.deref-4.ensures.value ∙ (c.in_ok-apart.ensures ∙ ap (λ (ns : List ℕ). flat_map (guards_of_sort P ns) (numbers_below (length ns))) c.deref-3.ensures.value) in
-    let inside_here = subst (λ (xs : List Atom). All (λ l. l / 2 < length xs) c.args.lits.now) (sym c.deref-5.ensures.value) inside in
     let is_pieces : lists_of c.deref-6.result.now ≡ pieces =
-    ap lists_of c.deref-6.ensures.value ∙ (c.in_ok-literals.ensures inside_here ∙ ap (λ (xs : List Atom). map (λ l. literal_text P (literal_among (map atom_of xs) l)) c.args.lits.now) c.deref-5.ensures.value) in
+    ap lists_of c.deref-6.ensures.value ∙ (c.in_ok-literals.ensures ∙ ap (λ (xs : List Atom). map (λ l. literal_text P (literal_among (map atom_of xs) l)) c.args.lits.now) c.deref-5.ensures.value) in
     three_parts c.new-text.result.items c.add_framed.new.text.items c.add_framed-2.new.text.items c.add_body.new.text.items
     (if_any bound (codes "forall " ++ (joined (codes ", ") bound ++ codes ". ")))
     (if_any guarded (joined (codes " & ") guarded ++ codes " -> "))

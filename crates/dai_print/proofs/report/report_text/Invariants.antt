@@ -10,5 +10,5 @@ use Rattle.dai_print.proofs.report.report_text.Given as goal
 abbrev pub invariant-loop-clause : goal.invariant-loop-clause
 invariant-loop-clause l = record {
   number : l.number ≡ 1 + l.clause-index;
-  lines : (B : Bounds) → All (IsClauseOf (protocol_of l.protocol) B l.space) l.kept → l.text.items ≡ flat_map (clause_line (protocol_of l.protocol)) (take l.clause-index (enumerate_from 1 (map (clause_of l.space) l.kept)));
+  lines : l.text.items ≡ flat_map (clause_line (protocol_of l.protocol)) (take l.clause-index (enumerate_from 1 (map (clause_of l.space) l.kept)));
 }

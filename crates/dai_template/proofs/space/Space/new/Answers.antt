@@ -46,4 +46,7 @@ returns-clause-space c =
       orders = c.in_ok-orders.ensures ∙ ap (λ (xs : List SortInfo). map (λ (T : Sort). T.ordered) (map sort_of xs)) c.deref-3.ensures.value;
       few_types = let k = few_sorts c.args.protocol.now in let e = length-map c.args.protocol.now.sorts.items sort_of in omega (arith, k, e);
       few_variables = c.requires.variables;
+      each = let k = length-map c.args.protocol.now.sorts.items sort_of in let e = c.requires.each in omega (arith, k, e);
+      few_literals = c.requires.literals;
+      few_atoms = let e = c.atom_count-atoms.ensures in omega (arith, e);
     }
