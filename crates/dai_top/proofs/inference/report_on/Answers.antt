@@ -16,6 +16,6 @@ report_text-requires c =
     record {
       bounds = B;
       each = subst (λ (xs : List Clause). All (IsClauseOf P B space) xs) (sym c.clauses.ensures)
-      (kept_printable P B space c.in_ok-all.field-0.items c.in_ok-greatest.greatest.items c.in_ok-minimal.minimal.clauses.items (c.in_ok-all.ensures P B c.in_ok-space.ensures) c.in_ok-greatest.ensures.among
-      (subst (λ (xs : List Clause). AreCopiesAmong c.in_ok-minimal.minimal.clauses.items xs) c.as_slice.ensures.value c.in_ok-minimal.ensures));
+          (kept_printable P B space c.in_ok-all.field-0.items c.in_ok-greatest.greatest.items c.in_ok-minimal.minimal.clauses.items (c.in_ok-all.ensures P B c.in_ok-space.ensures) c.in_ok-greatest.ensures.among
+          (subst (λ (xs : List Clause). AreCopiesAmong c.in_ok-minimal.minimal.clauses.items xs) c.as_slice.ensures.value c.in_ok-minimal.ensures));
     }
