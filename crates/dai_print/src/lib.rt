@@ -2,10 +2,12 @@
 #![tactic(auto)]
 
 mod clauses;
+mod counts;
 mod guards;
 mod joining;
 mod names;
 mod report;
 
 pub use clauses::clause_text;
+pub use counts::{Counts, counts_text};
 pub use report::report_text;

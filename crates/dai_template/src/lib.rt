@@ -7,6 +7,7 @@ mod clause;
 mod counting;
 mod formulas;
 pub mod laws;
+mod limits;
 mod listing;
 mod meeting;
 mod shapes;
@@ -16,4 +17,5 @@ mod tests;
 mod tuples;
 
 pub use clause::{Atom, Clause, Shape};
+pub use limits::{atoms_within, templates_within};
 pub use space::{Space, SpaceError};

@@ -1,6 +1,7 @@
-pub mod Digits
 pub mod Closed
-pub mod WordLemmas
 pub mod Held
-pub mod Refusals
 pub mod Printed
+pub mod Puts
+pub mod Sorts
+pub mod Faults
+pub mod OneAnswer

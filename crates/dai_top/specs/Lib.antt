@@ -1,5 +1,5 @@
-pub mod Words
-pub mod Readings
-pub mod Refusals
-pub mod Reports
+pub mod Bounds
+pub mod Limits
+pub mod Answers
 pub mod Outcome
+pub mod Stops

@@ -1,9 +1,7 @@
 //! Putting lines.
-ghost use Rattle.std.specs.Prelude.{◌≡◌, ◌≢◌, ◌<◌, ◌≤◌, ◌⊎◌, length, IfOk, string_bytes};
-ghost use Rattle.dai_base.specs.Count.{Rises, NeverFalls};
+ghost use Rattle.std.specs.Prelude.{◌≡◌, ◌<◌, ◌≤◌, length, IfOk, string_bytes};
 ghost use Rattle.dai_base.specs.Fault.{IsListed, fault_text};
-ghost use Rattle.dai_base.specs.Sink.{Appends};
-ghost use Rattle.dai_top.specs.Outcome.{IsTold, read_fault};
+ghost use Rattle.dai_top.specs.Outcome.{IsTold, read_line};
 
 use dai_base::{Fault, PutError, Sink, Spent, fault_line};
 use std::alloc::Global;
@@ -38,7 +36,7 @@ pub fn tell<S: Sink>(alloc: Global, name: &str, fault: &Fault, sink: &mut S) -> 
 
 /// Puts that the file cannot be read, with status 3.
 pub fn tell_unreadable<S: Sink>(alloc: Global, name: &str, sink: &mut S) -> u8
-    ensures { IsTold (read_fault name.now) 3 (S.written sink.old) (S.written sink.new) (S.faults sink.old) (S.faults sink.new) result }
+    ensures { IsTold (read_line name.now) 3 (S.written sink.old) (S.written sink.new) (S.faults sink.old) (S.faults sink.new) result }
 {
     match unreadable_line(alloc, name) {
         Ok(line) => put(sink, line.as_bytes(), 3),
@@ -47,7 +45,7 @@ pub fn tell_unreadable<S: Sink>(alloc: Global, name: &str, sink: &mut S) -> u8
 }
 
 fn unreadable_line(alloc: Global, name: &str) -> Result<String, std::alloc::AllocError>
-    ensures { IfOk result (λ line. string_bytes line ≡ read_fault name.now) }
+    ensures { IfOk result (λ line. string_bytes line ≡ read_line name.now) }
 {
     format!(in alloc; "{name}: cannot be read\n")
 }
@@ -55,14 +53,13 @@ fn unreadable_line(alloc: Global, name: &str) -> Result<String, std::alloc::Allo
 /// Puts each line of the text, with its line feed, and then answers the status. After a put that fails
 /// nothing more is put.
 pub fn put_lines<S: Sink>(sink: &mut S, text: &[u8], status: u8) -> u8
-    ensures failed { result ≢ status → result ≢ 5 → (result ≡ 4) × Rises (S.faults sink.old) (S.faults sink.new) }
-    ensures answers { (result ≡ status) ⊎ ((result ≡ 4) ⊎ (result ≡ 5)) }
+    ensures { IsTold text.now status (S.written sink.old) (S.written sink.new) (S.faults sink.old) (S.faults sink.new) result }
 {
-    let mut rest = text;
-    while !rest.is_empty() {
-        let (line, after) = rest.split_at(line_length(rest));
-        match sink.put(line) {
-            Ok(()) => rest = after,
+    let mut done = 0;
+    while done < text.len() {
+        let end = done + line_length(&text[done..]);
+        match sink.put(&text[done..end]) {
+            Ok(()) => done = end,
             Err(PutError::Failed) => return NOT_PUT,
             Err(PutError::Spent) => return SPENT,
         }

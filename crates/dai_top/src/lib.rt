@@ -1,15 +1,17 @@
 //! The program as a function: from words, files and sinks to a status.
 #![tactic(auto)]
 
+mod answers;
+mod bounds;
 mod console;
-mod inference;
-mod number;
-mod settings;
+mod limits;
+mod report;
+mod stop;
 #[cfg(test)]
 mod tests;
 mod top;
-mod words;
 
-pub use settings::{Command, Settings, WordsError};
+pub use answers::{Answer, answer_to};
+pub use dai_words::{Command, Settings, WordsError, read_words};
+pub use stop::Stop;
 pub use top::distai;
-pub use words::read_words;

@@ -1,6 +1,4 @@
-use crate::settings::WordsError;
 use crate::top::distai;
-use crate::words::read_words;
 use dai_base::{Files, SureFiles, SureSink};
 use std::alloc::Global;
 use std::test::Fail;
@@ -11,8 +9,11 @@ const TWO_FLAGS: &str =
 const SWAP: &str =
     "relation x\nrelation y\nrelation bad\nafter init { x := true; y := false; bad := false }\naction u = {\n  if x { x := false; y := true } else { x := true; y := false }\n}\naction t = { require x & y; bad := true }\nexport u\nexport t\ninvariant [safe] ~bad\n";
 
+const LOCK: &str =
+    "#lang ivy1.7\ntype client\ntype server\nrelation link(X:client, Y:server)\nrelation semaphore(X:server)\nafter init {\n  semaphore(W) := true;\n  link(X,Y) := false\n}\naction connect(x:client, y:server) = {\n  require semaphore(y);\n  link(x,y) := true;\n  semaphore(y) := false\n}\naction disconnect(x:client, y:server) = {\n  require link(x,y);\n  link(x,y) := false;\n  semaphore(y) := true\n}\nexport connect\nexport disconnect\ninvariant [safety] link(X,Y) & link(Z,Y) -> X = Z\n";
+
 /// The files that are held.
-const HELD: [(&str, &str); 11] = [
+const HELD: [(&str, &str); 12] = [
     ("ab.ivy", TWO_FLAGS),
     ("swap.ivy", SWAP),
     ("none.ivy", "relation p\naxiom p & ~p\n"),
@@ -24,10 +25,11 @@ const HELD: [(&str, &str); 11] = [
     ("token.ivy", "relation p q"),
     ("end.ivy", "relation p\naction a = { p :="),
     ("left.ivy", "relation p\naction a = { p := * }"),
+    ("lock.ivy", LOCK),
 ];
 
 /// Words, and the status, `out` and `err` that answer them.
-const ROWS: [(&str, u8, &str, &str); 17] = [
+const ROWS: [(&str, u8, &str, &str); 23] = [
     (
         "infer ab.ivy --lits 2",
         0,
@@ -95,6 +97,37 @@ const ROWS: [(&str, u8, &str, &str); 17] = [
         "distai: word 5: E01 bad words\n",
     ),
     ("", 2, "", "distai: word 1: E01 bad words\n"),
+    (
+        "space lock.ivy --vars client=2,server=1 --lits 2",
+        2,
+        "",
+        "lock.ivy:1:1: E20 not in the profile\n",
+    ),
+    (
+        "infer ab.ivy --vars node=1",
+        2,
+        "",
+        "distai: word 4: E03 unknown type\n",
+    ),
+    (
+        "space gone.ivy --size 7",
+        2,
+        "",
+        "distai: word 4: E02 value out of range\n",
+    ),
+    ("space nowhere.ivy", 3, "", "nowhere.ivy: cannot be read\n"),
+    (
+        "space twice.ivy --vars t=1",
+        2,
+        "",
+        "twice.ivy:2:10: E21 declared twice\n",
+    ),
+    (
+        "space empty.ivy",
+        0,
+        "types 0\nshapes 1\natoms 0\ntemplates 1\nground 0\nmoves 0\n",
+        "",
+    ),
 ];
 
 /// The words of a line, between spaces.
@@ -127,22 +160,55 @@ fn answers_and_refusals(rt: HostRuntime) -> Result<(), Fail> {
     Ok(())
 }
 
+/// A file of so many relations, with names of two digits.
+fn many_relations(alloc: Global, count: u8) -> Result<Vec<u8>, Fail> {
+    let mut text = Vec::new(alloc);
+    for number in 1..=count {
+        text.extend_from_slice(b"relation r")?;
+        text.push(b'0' + number / 10 % 10)?;
+        text.push(b'0' + number % 10)?;
+        text.push(b'\n')?;
+    }
+    Ok(text)
+}
+
+/// The largest space of flags within the limits at three literals, and the next one.
 #[test]
-fn words_are_read(rt: HostRuntime) -> Result<(), Fail> {
+fn counts_many_flags(rt: HostRuntime) -> Result<(), Fail> {
     let alloc = rt.alloc();
-    for (line, number, word) in [
-        ("infer ab.ivy --fast yes", 1, 3),
-        ("infer ab.ivy --lits", 1, 4),
-        ("infer ab.ivy --lits=2", 1, 3),
-        ("infer -ab.ivy", 1, 2),
-        ("space ab.ivy", 1, 1),
+    for (line, count, status, out_text, err_text) in [
+        (
+            "space m.ivy --lits 3",
+            53u8,
+            0u8,
+            "types 0\nshapes 1\natoms 53\ntemplates 193027\nground 53\nmoves 0\n",
+            "",
+        ),
+        (
+            "space m.ivy --lits 3",
+            54,
+            2,
+            "",
+            "m.ivy: E40 templates 204265, limit 200000\n",
+        ),
+        (
+            "infer m.ivy --lits 1",
+            11,
+            2,
+            "",
+            "m.ivy:1:1: E20 not in the profile\n",
+        ),
     ] {
         let words = words_of(alloc, line)?;
-        let refusal = read_words(alloc, words.as_slice()).err();
-        assert!(rt; refusal == Some(WordsError::Bad { number, word }), "{line}");
+        let mut files = SureFiles::new(alloc);
+        let text = many_relations(alloc, count)?;
+        files.hold("m.ivy", &text).ok().ok_or("memory")?;
+        let mut out = SureSink::new(alloc);
+        let mut err = SureSink::new(alloc);
+        let answer = distai(alloc, words.as_slice(), &mut files, &mut out, &mut err);
+        assert_eq!(rt; answer, status, "{line}");
+        assert_eq!(rt; out.bytes(), out_text.as_bytes(), "{line}");
+        assert_eq!(rt; err.bytes(), err_text.as_bytes(), "{line}");
     }
-    let words = words_of(alloc, "infer ab.ivy --lits 0003")?;
-    let settings = read_words(alloc, words.as_slice()).ok().ok_or("refused")?;
-    assert_eq!(rt; settings.lits, 3);
     Ok(())
 }

@@ -1,33 +1,30 @@
 //! The top call.
-ghost use Rattle.std.specs.Prelude.{◌≡◌, ℕ, ◌+◌, ◌≤◌, ◌<◌, ◌⊎◌, List, length, take, Some, Ok, Err, string_bytes};
-ghost use Rattle.dai_base.specs.Count.{Rises, RisesByOne};
+ghost use Rattle.std.specs.Prelude.{◌≡◌, ℕ, ◌+◌, ◌≤◌, ◌⊎◌, List, length, Some, Ok, Err};
+ghost use Rattle.dai_base.specs.Count.{Rises};
 ghost use Rattle.dai_base.specs.Files.{Holdings};
-ghost use Rattle.dai_base.specs.Place.{IsPlaceAfter};
-ghost use Rattle.dai_base.specs.Sink.{Appends};
-ghost use Rattle.dai_top.specs.Words.{Refusal, Choices, settings_of};
-ghost use Rattle.dai_top.specs.Readings.{texts};
-ghost use Rattle.dai_top.specs.Outcome.{IsTold, words_fault, length_fault, file_fault, read_fault, most_bytes, IsRefusedFile, IsFaultTold};
-ghost use Rattle.dai_top.specs.Refusals.{IsFaultOf};
-ghost use Rattle.dai_top.specs.Reports.{IsNoReport};
-ghost use Rattle.dai_base.specs.declared.fault.Place.{Place};
+ghost use Rattle.dai_front.specs.Files.{AreOneProtocol};
+ghost use Rattle.dai_words.specs.Refusals.{Refusal};
+ghost use Rattle.dai_words.specs.Words.{Choices, settings_of, AreWithinRanges};
+ghost use Rattle.dai_words.specs.Readings.{texts, choices_of};
+ghost use Rattle.dai_top.specs.Answers.{Answer as Meaning, IsAnswerTo};
+ghost use Rattle.dai_top.specs.Outcome.{IsTold, words_line, read_line, TellsRefusal, TellsRefusalOf};
 
+use crate::answers::answer_to;
 use crate::console::{SPENT, put_lines, tell, tell_unreadable};
-use crate::inference::{NoReport, infer};
-use crate::settings::{Settings, WordsError};
-use crate::words::read_words;
-use dai_base::{Fault, Files, Place, ReadError, Sink, place};
-use dai_lex::one_reading;
-use dai_syntax::{one_fault, one_file};
+use crate::stop::Stop;
+use dai_base::{Fault, Files, ReadError, Sink};
+use dai_front::one_verdict;
+use dai_words::{Settings, WordsError, read_words, settings_are_within_ranges};
 use std::alloc::Global;
 
 /// The most bytes of a file.
 const MOST_BYTES: usize = 1_048_576;
 
-/// Does all that the program does, and answers the status: 0 where the report says FOUND, 1 where it says NOT
-/// FOUND, 2 where the words or the file are refused by a number, 3 where the file can't be read, 4 where a
-/// put failed, 5 where memory ran out.
+/// Does all that the program does, and answers the status: 0 where the work is done and, for a report, every
+/// invariant follows, 1 where some invariant doesn't, 2 where the words, the file or the limits are refused by a
+/// number, 3 where the file can't be read, 4 where a put failed, 5 where memory ran out.
 ///
-/// The report goes to `out`, a put for each line, and the line of a fault to `err`.
+/// The text goes to `out`, a put for each line, and the line of a fault to `err`.
 pub fn distai<F: Files, O: Sink, E: Sink>(
     alloc: Global,
     words: &[String],
@@ -36,23 +33,22 @@ pub fn distai<F: Files, O: Sink, E: Sink>(
     err: &mut E,
 ) -> u8
     // Words that are refused: no file is read, nothing is put to `out`, and `err` gets the fault's line.
-    ensures refused_words { (r : Refusal) → settings_of (texts words.now) ≡ Err r → (files.new ≡ files.old) × (out.new ≡ out.old) × IsTold (words_fault r) 2 (E.written err.old) (E.written err.new) (E.faults err.old) (E.faults err.new) result }
+    ensures refused_words { (r : Refusal) → settings_of (texts words.now) ≡ Err r → (files.new ≡ files.old) × (out.new ≡ out.old) × IsTold (words_line r) 2 (E.written err.old) (E.written err.new) (E.faults err.old) (E.faults err.new) result }
 
-    // A file with more bytes than the limit: nothing is put to `out`, and `err` gets the fault's line, if the read didn't fail.
-    ensures long_file { (c : Choices) (held : Holdings) (bytes : List ℕ) → settings_of (texts words.now) ≡ Ok c → F.held files.old ≡ Some held → held c.operand ≡ Some bytes → most_bytes < length bytes
-        → (out.new ≡ out.old) × (IsTold (length_fault c.operand) 2 (E.written err.old) (E.written err.new) (E.faults err.old) (E.faults err.new) result
-        ⊎ (Rises (F.faults files.old) (F.faults files.new) × IsTold (read_fault c.operand) 3 (E.written err.old) (E.written err.new) (E.faults err.old) (E.faults err.new) result)) }
+    // Words that are accepted and bytes that are held and are one protocol at most: their answer is put, or the read
+    // failed and its line is put.
+    ensures answered { (c : Choices) (held : Holdings) (bytes : List ℕ) (x : Meaning) → settings_of (texts words.now) ≡ Ok c → F.held files.old ≡ Some held → held c.operand ≡ Some bytes → AreOneProtocol bytes → IsAnswerTo c bytes x
+        → ((x.status ≡ 2) × (out.new ≡ out.old) × IsTold x.err 2 (E.written err.old) (E.written err.new) (E.faults err.old) (E.faults err.new) result)
+        ⊎ (((x.status ≡ 0) × (err.new ≡ err.old) × IsTold x.out 0 (O.written out.old) (O.written out.new) (O.faults out.old) (O.faults out.new) result)
+        ⊎ (Rises (F.faults files.old) (F.faults files.new) × (out.new ≡ out.old) × IsTold (read_line c.operand) 3 (E.written err.old) (E.written err.new) (E.faults err.old) (E.faults err.new) result)) }
 
-    // A file within the limit whose bytes are refused: nothing is put to `out`, and `err` gets the line of its fault, if the read didn't fail.
-    ensures faulty_file { (c : Choices) (held : Holdings) (bytes : List ℕ) (number : ℕ) (place : Place) → settings_of (texts words.now) ≡ Ok c → F.held files.old ≡ Some held → held c.operand ≡ Some bytes → length bytes ≤ most_bytes → IsFaultOf bytes number place
-        → (out.new ≡ out.old) × (IsTold (file_fault c.operand number place) 2 (E.written err.old) (E.written err.new) (E.faults err.old) (E.faults err.new) result
-        ⊎ (Rises (F.faults files.old) (F.faults files.new) × IsTold (read_fault c.operand) 3 (E.written err.old) (E.written err.new) (E.faults err.old) (E.faults err.new) result)) }
-
-    // Status 2 after words that are accepted is the line of a file that is too long, or else of the fault of its bytes.
-    ensures refused_file { (c : Choices) → settings_of (texts words.now) ≡ Ok c → result ≡ 2 → (out.new ≡ out.old) × IsRefusedFile (F.held files.old) c.operand (E.written err.old) (E.written err.new) }
+    // Status 2 after words that are accepted is the line of a refusal of the bytes that are held.
+    ensures refused { (c : Choices) → settings_of (texts words.now) ≡ Ok c → result ≡ 2 → (out.new ≡ out.old) × TellsRefusal (F.held files.old) c (E.written err.old) (E.written err.new) }
 
     ensures one_read { F.reads files.new ≤ F.reads files.old + 1 }
 {
+    settings_are_within_ranges();
+    one_verdict();
     match read_words(alloc, words) {
         Ok(settings) => run(alloc, &settings, files, out, err),
         Err(WordsError::Bad { number, word }) => tell(
@@ -65,7 +61,7 @@ pub fn distai<F: Files, O: Sink, E: Sink>(
     }
 }
 
-/// Reads the file and runs on it.
+/// Reads the file and answers.
 fn run<F: Files, O: Sink, E: Sink>(
     alloc: Global,
     settings: &Settings,
@@ -73,75 +69,42 @@ fn run<F: Files, O: Sink, E: Sink>(
     out: &mut O,
     err: &mut E,
 ) -> u8
-    ensures long_file { (held : Holdings) (bytes : List ℕ) → F.held files.old ≡ Some held → held (string_bytes settings.now.operand) ≡ Some bytes → most_bytes < length bytes
-        → (out.new ≡ out.old) × (IsTold (length_fault (string_bytes settings.now.operand)) 2 (E.written err.old) (E.written err.new) (E.faults err.old) (E.faults err.new) result
-        ⊎ (Rises (F.faults files.old) (F.faults files.new) × IsTold (read_fault (string_bytes settings.now.operand)) 3 (E.written err.old) (E.written err.new) (E.faults err.old) (E.faults err.new) result)) }
-    ensures faulty_file { (held : Holdings) (bytes : List ℕ) (number : ℕ) (place : Place) → F.held files.old ≡ Some held → held (string_bytes settings.now.operand) ≡ Some bytes → length bytes ≤ most_bytes → IsFaultOf bytes number place
-        → (out.new ≡ out.old) × (IsTold (file_fault (string_bytes settings.now.operand) number place) 2 (E.written err.old) (E.written err.new) (E.faults err.old) (E.faults err.new) result
-        ⊎ (Rises (F.faults files.old) (F.faults files.new) × IsTold (read_fault (string_bytes settings.now.operand)) 3 (E.written err.old) (E.written err.new) (E.faults err.old) (E.faults err.new) result)) }
-    ensures refused_file { result ≡ 2 → (out.new ≡ out.old) × IsRefusedFile (F.held files.old) (string_bytes settings.now.operand) (E.written err.old) (E.written err.new) }
+    requires { AreWithinRanges (choices_of settings.now) }
+    ensures answered { (held : Holdings) (bytes : List ℕ) (x : Meaning) → F.held files.old ≡ Some held → held (choices_of settings.now).operand ≡ Some bytes → AreOneProtocol bytes → IsAnswerTo (choices_of settings.now) bytes x
+        → ((x.status ≡ 2) × (out.new ≡ out.old) × IsTold x.err 2 (E.written err.old) (E.written err.new) (E.faults err.old) (E.faults err.new) result)
+        ⊎ (((x.status ≡ 0) × (err.new ≡ err.old) × IsTold x.out 0 (O.written out.old) (O.written out.new) (O.faults out.old) (O.faults out.new) result)
+        ⊎ (Rises (F.faults files.old) (F.faults files.new) × (out.new ≡ out.old) × IsTold (read_line (choices_of settings.now).operand) 3 (E.written err.old) (E.written err.new) (E.faults err.old) (E.faults err.new) result)) }
+    ensures refused { result ≡ 2 → (out.new ≡ out.old) × TellsRefusal (F.held files.old) (choices_of settings.now) (E.written err.old) (E.written err.new) }
     ensures one_read { F.reads files.new ≤ F.reads files.old + 1 }
 {
     let name = settings.operand.as_str();
     match files.read_all(name, MOST_BYTES) {
-        Ok(bytes) => run_on(alloc, name, bytes.as_slice(), settings.lits, out, err),
+        Ok(bytes) => run_on(alloc, settings, bytes.as_slice(), out, err),
         Err(ReadError::TooLong) => tell(alloc, name, &Fault::TooLong, err),
         Err(ReadError::Missing) | Err(ReadError::Failed) => tell_unreadable(alloc, name, err),
         Err(ReadError::Spent) => SPENT,
     }
 }
 
-/// Runs on the bytes of the file.
+/// Answers on the bytes of the file.
 fn run_on<O: Sink, E: Sink>(
     alloc: Global,
-    name: &str,
+    settings: &Settings,
     bytes: &[u8],
-    lits: u8,
     out: &mut O,
     err: &mut E,
 ) -> u8
     requires short { length bytes.now ≤ 1048576 }
-    requires literals { lits ≤ 8 }
-    ensures faulty { (number : ℕ) (place : Place) → IsFaultOf bytes.now number place → (out.new ≡ out.old) × IsTold (file_fault name.now number place) 2 (E.written err.old) (E.written err.new) (E.faults err.old) (E.faults err.new) result }
-    ensures refused { result ≡ 2 → (out.new ≡ out.old) × IsFaultTold bytes.now name.now (E.written err.old) (E.written err.new) }
+    requires ranges { AreWithinRanges (choices_of settings.now) }
+    ensures answered { AreOneProtocol bytes.now → (x : Meaning) → IsAnswerTo (choices_of settings.now) bytes.now x
+        → ((x.status ≡ 2) × (out.new ≡ out.old) × IsTold x.err 2 (E.written err.old) (E.written err.new) (E.faults err.old) (E.faults err.new) result)
+        ⊎ ((x.status ≡ 0) × (err.new ≡ err.old) × IsTold x.out 0 (O.written out.old) (O.written out.new) (O.faults out.old) (O.faults out.new) result) }
+    ensures refused { result ≡ 2 → (out.new ≡ out.old) × TellsRefusalOf bytes.now (choices_of settings.now) (E.written err.old) (E.written err.new) }
 {
-    match infer(alloc, bytes, lits) {
-        Ok(report) => put_lines(
-            out,
-            report.text.as_slice(),
-            if report.found { 0 } else { 1 },
-        ),
-        Err(error) => tell_error(alloc, name, bytes, error, err),
-    }
-}
-
-/// Puts the line of the fault of the bytes, or nothing where memory ran out.
-fn tell_error<E: Sink>(alloc: Global, name: &str, bytes: &[u8], error: NoReport, err: &mut E) -> u8
-    requires short { length bytes.now ≤ 1048576 }
-    requires error { IsNoReport bytes.now error }
-    ensures faulty { (number : ℕ) (place : Place) → IsFaultOf bytes.now number place → IsTold (file_fault name.now number place) 2 (E.written err.old) (E.written err.new) (E.faults err.old) (E.faults err.new) result }
-    ensures refused { result ≡ 2 → IsFaultTold bytes.now name.now (E.written err.old) (E.written err.new) }
-{
-    one_reading();
-    one_fault();
-    one_file();
-    match error {
-        NoReport::Refused { number, at } => {
-            let at = place_after(bytes, at);
-            tell(alloc, name, &Fault::InFile { number, at }, err)
-        }
-        NoReport::Spent => SPENT,
-    }
-}
-
-/// The place after the first `at` bytes, or after all of them where there are fewer.
-fn place_after(bytes: &[u8], at: u32) -> Place
-    requires short { length bytes.now ≤ 1048576 }
-    ensures { IsPlaceAfter (take at bytes.now) result }
-{
-    if at as usize <= bytes.len() {
-        place(bytes, at)
-    } else {
-        place(bytes, bytes.len() as u32)
+    one_verdict();
+    match answer_to(alloc, settings, bytes) {
+        Ok(answer) => put_lines(out, answer.out.as_slice(), answer.status),
+        Err(Stop::Fault(fault)) => tell(alloc, settings.operand.as_str(), &fault, err),
+        Err(Stop::Spent) => SPENT,
     }
 }

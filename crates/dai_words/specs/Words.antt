@@ -1,6 +1,7 @@
 -- The settings that the words give, or the first word that is refused.
-use Rattle.std.specs.Prelude.{ℕ, Bool, false, not, List, [], ◌∷◌, Option, Some, None, unwrap_or, Result, Ok, nat_eq, codes, if◌then◌else◌}
+use Rattle.std.specs.Prelude.{◌≡◌, ℕ, ◌≤◌, ◌⊎◌, Bool, false, not, List, [], ◌∷◌, Option, Some, None, unwrap_or, Result, Ok, nat_eq, codes, if◌then◌else◌}
 use Rattle.std.specs.Option.{option_map_or}
+use Rattle.std.specs.List.{All}
 use Rattle.std.specs.Str.{bytes_eq}
 use Rattle.dai_words.specs.declared.settings.Command.{Command}
 use Rattle.dai_words.specs.declared.settings.Command.TheVariants.{Infer, Space}
@@ -60,3 +61,13 @@ known_command words (Some command) = command_line command words
 abbrev pub settings_of : List (List ℕ) → Result Choices Refusal
 settings_of [] = bad_words 1
 settings_of (command ∷ words) = known_command words (command_named command)
+
+-- each value is within its range, and the command is one that is known
+pub record AreWithinRanges (c : Choices) : Type 0 where
+  pub command : (c.command ≡ Infer) ⊎ (c.command ≡ Space)
+  pub variables : All (λ (bound : List ℕ × ℕ). bound.1 ≤ 4) c.variables
+  pub literals : c.literals ≤ 8
+  pub runs : c.runs ≤ 1000
+  pub steps : c.steps ≤ 1000
+  pub size : (1 ≤ c.size) × (c.size ≤ 6)
+  pub workers : (1 ≤ c.workers) × (c.workers ≤ 16)

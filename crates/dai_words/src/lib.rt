@@ -3,6 +3,7 @@
 #![tactic(auto)]
 
 mod bounds;
+mod law;
 mod number;
 mod options;
 mod settings;
@@ -10,5 +11,6 @@ mod settings;
 mod tests;
 mod words;
 
+pub use law::settings_are_within_ranges;
 pub use settings::{Command, Settings, WordsError};
 pub use words::read_words;

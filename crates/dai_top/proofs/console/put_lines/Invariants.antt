@@ -1,9 +1,14 @@
--- the count of faults didn't fall, and what is left of the text grows less
-use Rattle.std.proofs.Common.{◌≤◌, length}
+use Rattle.std.proofs.Common.{◌≤◌, ◌-◌, length, take}
+use Rattle.dai_base.specs.Sink.{Appends}
 use Rattle.dai_top.proofs.console.put_lines.Given as goal
 
-abbrev pub invariant-loop-rest : goal.invariant-loop-rest
-invariant-loop-rest g l = g.S.Sink.faults l.initial.sink ≤ g.S.Sink.faults l.sink
+-- so many bytes are written, and no count fell
+abbrev pub invariant-loop-done : goal.invariant-loop-done
+invariant-loop-done g l = record {
+  written : Appends (g.S.Sink.written l.fn.sink) (g.S.Sink.written l.sink) (take l.done l.text);
+  within : l.done ≤ length l.text;
+  counts : g.S.Sink.faults l.fn.sink ≤ g.S.Sink.faults l.sink;
+}
 
-abbrev pub decreases-loop-rest : goal.decreases-loop-rest
-decreases-loop-rest g l = length l.rest
+abbrev pub decreases-loop-done : goal.decreases-loop-done
+decreases-loop-done g l = length l.text - l.done

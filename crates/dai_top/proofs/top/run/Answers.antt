@@ -1,47 +1,37 @@
-use Rattle.std.proofs.Common.{◌≡◌, ◌≤◌, ℕ, List, length, Option, Some, Ok, arith, sym, ◌∙◌, ap, subst, inl, inr, string_bytes}
+use Rattle.std.proofs.Common.{◌≡◌, ◌<◌, ℕ, List, length, Option, Err, inl, inr, refl, ap, subst, ⊎_elim}
 use Rattle.std.specs.Prelude.{IsSomeAnd}
+use Rattle.dai_base.specs.Fault.{fault_text}
 use Rattle.dai_base.specs.Files.{Holdings, IsReadOf}
 use Rattle.dai_base.specs.Sink.{Appends}
-use Rattle.dai_top.specs.Outcome.{IsTold, file_fault}
-use Rattle.dai_top.specs.Refusals.{IsFaultOf}
-use Rattle.dai_top.proofs.Held.{at_some}
+use Rattle.dai_base.specs.declared.fault.Fault.TheVariants.{TooLong}
+use Rattle.dai_base.specs.declared.files.ReadError.{ReadError}
+use Rattle.dai_top.specs.Answers.{refusal, IsAnswerTo, long_file}
+use Rattle.dai_top.proofs.Held.{at_some, some_and, told_two}
+use Rattle.dai_words.specs.Readings.{choices_of}
+use Rattle.dai_top.proofs.OneAnswer.{refused_or_done}
+use Rattle.dai_top.proofs.Puts.{part_none}
 use Rattle.dai_top.proofs.top.run.Goals as goal
 
--- the bytes that are held are those that were read
-pub returns-in-Ok-clause-faulty_file : goal.returns-in-Ok-clause-faulty_file
-returns-in-Ok-clause-faulty_file g c = λ held bytes number place h k short fault.
+pub returns-in-Err-TooLong-clause-refused : goal.returns-in-Err-TooLong-clause-refused
+returns-in-Err-TooLong-clause-refused g c = λ two.
     let name = c.as_str-name.ensures.value in
-    let Q : Holdings → Type 0 = λ files. IsReadOf (files c.as_str-name.result.now) 1048576 (g.F.Files.faults c.args.files.now) (g.F.Files.faults c.read_all.new.self) (Ok c.in-Ok.bytes) in
-    let read : held c.as_str-name.result.now ≡ Some c.in-Ok.bytes.items = at_some Q (g.F.Files.held c.args.files.now) held c.in-Ok.ensures.told h in
-    let found : held c.as_str-name.result.now ≡ Some bytes = ap held name ∙ k in
-    let items : bytes ≡ c.in-Ok.bytes.items = cc in
-    let slice : bytes ≡ c.as_slice.result.now = items ∙ sym c.as_slice.ensures.value in
-    let P : List ℕ → Type 0 = λ b. IsFaultOf b number place in
-    let told = c.run_on.ensures.faulty number place (subst P slice fault) in
-    let R : List ℕ → Type 0 = λ n. IsTold (file_fault n number place) 2 (g.E.Sink.written c.args.err.now) (g.E.Sink.written c.run_on.new.err) (g.E.Sink.faults c.args.err.now) (g.E.Sink.faults c.run_on.new.err) c.run_on.result in
-    (told.0, inl (subst R name told.1))
-
-pub returns-in-Ok-clause-refused_file : goal.returns-in-Ok-clause-refused_file
-returns-in-Ok-clause-refused_file g c = λ two.
-    let told = c.run_on.ensures.refused two in
-    let fault = told.1 in
-    let name = c.as_str-name.ensures.value in
-    let P : List ℕ → Type 0 = λ b. IsFaultOf b fault.number fault.place in
-    let S : List ℕ → Type 0 = λ n. Appends (g.E.Sink.written c.args.err.now) (g.E.Sink.written c.run_on.new.err) (file_fault n fault.number fault.place) in (
-      told.0,
-      inr (record {
-        number = fault.number;
-        place = fault.place;
+    let choices = choices_of c.args.settings.now in
+    let L : List ℕ → Type 0 = λ n. Appends (g.E.Sink.written c.args.err.now) (g.E.Sink.written c.tell.new.sink) (fault_text n TooLong) in (
+      refl,
+      record {
+        fault = TooLong;
         is = λ files e.
-            let Q : Holdings → Type 0 = λ files. IsReadOf (files c.as_str-name.result.now) 1048576 (g.F.Files.faults c.args.files.now) (g.F.Files.faults c.read_all.new.self) (Ok c.in-Ok.bytes) in
-            let read : files c.as_str-name.result.now ≡ Some c.in-Ok.bytes.items = at_some Q (g.F.Files.held c.args.files.now) files c.in-Ok.ensures.told e in
-            let found : Some c.in-Ok.bytes.items ≡ files (string_bytes c.args.settings.now.operand) = sym read ∙ ap files name in
-            let R : Option (List ℕ) → Type 0 = λ o. IsSomeAnd o (λ bytes. (length bytes ≤ 1048576) × IsFaultOf bytes fault.number fault.place) in
-            let a = c.in-Ok.ensures.within_limit in
-            let b = c.as_slice.ensures.len in
-            let d = ap length c.as_slice.ensures.value in
-            let few : length c.in-Ok.bytes.items ≤ 1048576 = omega arith in
-            subst R found (few, subst P c.as_slice.ensures.value fault.is);
-        told = subst S name fault.told;
-      }),
+            let Q : Holdings → Type 0 = λ held. IsReadOf (held c.as_str-name.result.now) 1048576 (g.F.Files.faults c.args.files.now) (g.F.Files.faults c.read_all.new.self) (Err c.in-Err-TooLong.field-0) in
+            let read = at_some Q (g.F.Files.held c.args.files.now) files c.in-Err-TooLong.ensures.told e in
+            let R : ReadError → Type 0 = λ error. IsReadOf (files c.as_str-name.result.now) 1048576 (g.F.Files.faults c.args.files.now) (g.F.Files.faults c.read_all.new.self) (Err error) in
+            let long = subst R c.in-Err-TooLong.field-0-is read in
+            let S : Option (List ℕ) → Type 0 = λ o. IsSomeAnd o (λ bytes. IsAnswerTo choices bytes (refusal choices.operand TooLong)) in
+            subst S (ap files name) (some_and (λ bytes. 1048576 < length bytes) (λ bytes. IsAnswerTo choices bytes (refusal choices.operand TooLong)) (files c.as_str-name.result.now) (λ bytes h. long_file h) long.0);
+        told = subst L name (told_two (fault_text c.as_str-name.result.now TooLong) _ _ _ _ c.tell.result c.tell.ensures two);
+      },
     )
+
+pub returns-in-Err-Spent-clause-answered : goal.returns-in-Err-Spent-clause-answered
+returns-in-Err-Spent-clause-answered g c = λ held bytes x told there one h.
+    ⊎_elim (λ two. inl (two, refl, inr (inr (refl, part_none (g.E.Sink.written c.args.err.now) x.err)))) (λ zero. inr (inl (zero, refl, inr (inr (refl, part_none (g.O.Sink.written c.args.out.now) x.out)))))
+    (refused_or_done (choices_of c.args.settings.now) bytes x h)

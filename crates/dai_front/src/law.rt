@@ -1,0 +1,18 @@
+//! Laws of files.
+ghost use Rattle.std.specs.Prelude.{◌≡◌, ℕ, List};
+ghost use Rattle.dai_base.specs.declared.fault.Place.{Place};
+ghost use Rattle.dai_model.specs.Protocol.{Protocol};
+ghost use Rattle.dai_front.specs.Files.{IsFaultOf, IsProtocolIn};
+
+use dai_lex::one_reading;
+use dai_syntax::{one_fault, one_file};
+
+/// Bytes have at most one fault, and none where they are a protocol.
+pub fn one_verdict()
+    ensures fault { (bytes : List ℕ) (n m : ℕ) (p q : Place) → IsFaultOf bytes n p → IsFaultOf bytes m q → (n ≡ m) × (p ≡ q) }
+    ensures never_both { (bytes : List ℕ) (P : Protocol) (n : ℕ) (p : Place) → IsProtocolIn bytes P → IsFaultOf bytes n p → ⊥ }
+{
+    one_reading();
+    one_file();
+    one_fault();
+}

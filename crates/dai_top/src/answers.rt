@@ -1,0 +1,126 @@
+//! The answer to settings and the bytes of a file.
+ghost use Rattle.std.specs.Prelude.{◌≡◌, ◌≤◌, length, vec_len, None, Some, IfOk, IfErr};
+ghost use Rattle.dai_logic.specs.Protocols.{protocol_of};
+ghost use Rattle.dai_model.specs.Template.{Bounds};
+ghost use Rattle.dai_template.specs.Spaces.{IsSpaceOf};
+ghost use Rattle.dai_model.specs.Sizes.{size_bounds};
+ghost use Rattle.dai_model.specs.Shapes.{shapes_within};
+ghost use Rattle.dai_model.specs.Limits.{atom_count};
+ghost use Rattle.dai_print.specs.Counts.{counts_text as text_of_counts};
+ghost use Rattle.dai_words.specs.declared.settings.Command.TheVariants.{Infer as infers, Space as counts_space};
+ghost use Rattle.dai_words.specs.Readings.{choices_of};
+ghost use Rattle.dai_words.specs.Words.{AreWithinRanges};
+ghost use Rattle.dai_table.specs.Flags.{IsTableOf};
+ghost use Rattle.dai_front.specs.Files.{AreOneProtocol};
+ghost use Rattle.dai_top.specs.Bounds.{bounds_of};
+ghost use Rattle.dai_top.specs.Limits.{fault_of, command_fault};
+ghost use Rattle.dai_top.specs.Answers.{Answer as Meaning, IsAnswerTo};
+ghost use Rattle.dai_top.specs.Stops.{IsFaultThat, IsStop, answer_of};
+
+use crate::bounds::bounds;
+use crate::limits::within_limits;
+use crate::report::report;
+use crate::stop::{Stop, no_protocol};
+use dai_base::{Fault, Place};
+use dai_front::{one_verdict, read_protocol};
+use dai_logic::Protocol;
+use dai_print::{Counts, counts_text};
+use dai_query::{ground, moves};
+use dai_table::MOST_FLAGS;
+use dai_template::{Space, atoms_within, templates_within};
+use dai_words::{Command, Settings};
+use std::alloc::Global;
+
+/// A text for the output, and the status: 0 where the work is done and, for a report, every invariant follows, else
+/// 1.
+#[derive(Drop)]
+pub struct Answer {
+    pub status: u8,
+    pub out: Vec<u8>,
+}
+
+/// The answer to settings, whose numbers are within their ranges, and the bytes of the file.
+///
+/// `Fault` comes exactly where the bytes or the settings are refused: by the first fault of the bytes; or else where
+/// `--vars` names no type; or else by the first count above its limit; or else, for a report, where the file isn't
+/// one of at most ten flags. For `space` the text is that of the counts.
+pub fn answer_to(alloc: Global, settings: &Settings, bytes: &[u8]) -> Result<Answer, Stop>
+    requires short { length bytes.now ≤ 1048576 }
+    requires ranges { AreWithinRanges (choices_of settings.now) }
+    ensures refused { IfErr result (IsStop (choices_of settings.now) bytes.now) }
+    ensures counted { IfOk result (λ a. settings.now.command ≡ counts_space → IsAnswerTo (choices_of settings.now) bytes.now (answer_of a)) }
+    ensures reported { IfOk result (λ a. settings.now.command ≡ infers → AreOneProtocol bytes.now → (x : Meaning) → IsAnswerTo (choices_of settings.now) bytes.now x → ⊥) }
+    ensures status { IfOk result (λ a. a.status ≤ 1) }
+{
+    one_verdict();
+    match read_protocol(alloc, bytes) {
+        Ok(protocol) => answer_on(alloc, settings, &protocol),
+        Err(error) => Err(no_protocol(error)),
+    }
+}
+
+/// The answer on a protocol.
+fn answer_on(alloc: Global, settings: &Settings, protocol: &Protocol) -> Result<Answer, Stop>
+    requires { AreWithinRanges (choices_of settings.now) }
+    ensures refused { IfErr result (IsFaultThat (λ f. fault_of (choices_of settings.now) (protocol_of protocol.now) ≡ Some f)) }
+    ensures accepted { IfOk result (λ _. fault_of (choices_of settings.now) (protocol_of protocol.now) ≡ None) }
+    ensures counted { IfOk result (λ a. settings.now.command ≡ counts_space → (a.status ≡ 0) × (a.out.items ≡ text_of_counts (protocol_of protocol.now) (bounds_of (protocol_of protocol.now) (choices_of settings.now)) settings.now.size)) }
+    ensures status { IfOk result (λ a. a.status ≤ 1) }
+{
+    let vars = bounds(alloc, settings, protocol)?;
+    let (space, sizes) = within_limits(alloc, protocol, &vars, settings.lits, settings.size)?;
+    match settings.command {
+        Command::Infer => infer(alloc, protocol, &space),
+        Command::Space => count(alloc, protocol, settings, &vars, &space, &sizes),
+        Command::Sample | Command::Gen => unreachable!(),
+    }
+}
+
+/// The report, where the protocol is one of at most ten flags.
+fn infer(alloc: Global, protocol: &Protocol, space: &Space) -> Result<Answer, Stop>
+    requires { (B : Bounds) × IsSpaceOf (protocol_of protocol.now) B space.now }
+    ensures refused { IfErr result (IsFaultThat (λ f. command_fault infers (protocol_of protocol.now) ≡ Some f)) }
+    ensures accepted { IfOk result (λ _. command_fault infers (protocol_of protocol.now) ≡ None) }
+    ensures status { IfOk result (λ a. a.status ≤ 1) }
+{
+    if !protocol.sorts.is_empty() || protocol.relations.len() > MOST_FLAGS {
+        return Err(Stop::Fault(Fault::InFile {
+            number: 20,
+            at: Place { line: 1, column: 1 },
+        }));
+    }
+    Ok(report(alloc, protocol, space)?)
+}
+
+/// The counts of the space, and of the sizes.
+fn count(
+    alloc: Global,
+    protocol: &Protocol,
+    settings: &Settings,
+    vars: &[u8],
+    space: &Space,
+    sizes: &[u16],
+) -> Result<Answer, Stop>
+    requires space { IsSpaceOf (protocol_of protocol.now) (record { variables = vars.now; literals = settings.now.lits }) space.now }
+    requires atoms { atom_count (protocol_of protocol.now) (record { variables = vars.now; literals = settings.now.lits }) ≤ 64 }
+    requires sizes { sizes.now ≡ size_bounds (protocol_of protocol.now) vars.now }
+    requires each { length vars.now ≡ vec_len protocol.now.sorts }
+    requires long { length sizes.now ≡ vec_len protocol.now.sorts }
+    requires few { settings.now.lits ≤ 8 }
+    requires small { settings.now.size ≤ 6 }
+    ensures spent { IfErr result (λ e. e ≡ Stop.Spent) }
+    ensures counted { IfOk result (λ a. (a.status ≡ 0) × (a.out.items ≡ text_of_counts (protocol_of protocol.now) (record { variables = vars.now; literals = settings.now.lits }) settings.now.size)) }
+{
+    let counts = Counts {
+        shapes: space.shapes.len() as u64,
+        atoms: atoms_within(protocol, vars),
+        templates: templates_within(alloc, protocol, vars, settings.lits)?,
+        bounds: sizes,
+        ground_atoms: ground(protocol, sizes, settings.size),
+        moves: moves(protocol, settings.size as u8),
+    };
+    Ok(Answer {
+        status: 0,
+        out: counts_text(alloc, protocol, &counts)?,
+    })
+}
