@@ -1,6 +1,6 @@
 -- The example of the tests is a protocol in the profile, its states fit, and clauses of one or two literals are of
 -- its spaces.
-use Rattle.std.proofs.Common.{◌≡◌, ℕ, zero, suc, ◌<◌, ◌≤◌, ◌+◌, ◌*◌, ◌/◌, Bool, List, [], ◌∷◌, ◌++◌, length, get_or, Some, slice_get, Vec, map, ap, sym, ◌∙◌, refl, subst, arith}
+use Rattle.std.proofs.Common.{◌≡◌, ℕ, zero, suc, ◌<◌, ◌≤◌, ◌+◌, ◌/◌, Bool, List, [], ◌∷◌, ◌++◌, length, get_or, Some, slice_get, Vec, map, ap, sym, ◌∙◌, refl, subst, arith}
 use Rattle.std.specs.declared.alloc.Global.{Global}
 use Rattle.std.specs.List.{All, IsDistinct}
 use Rattle.std.proofs.lemmas.Grind.{merely}

@@ -1,5 +1,5 @@
 -- Lists of canonical clauses in print order, put together of parts.
-use Rattle.std.proofs.Common.{◌≡◌, ◌≢◌, ◌<◌, ◌≤◌, ◌+◌, ◌*◌, ◌/◌, ◌%◌, ◌^◌, ℕ, zero, suc, Bool, true, false, not, Result, Ok, Err, Option, Some, None, List, [], ◌∷◌, ◌++◌, length, get_or, map, sum, sym, ap, ◌∙◌, subst, refl, arith, inl, inr, ◌⊎◌}
+use Rattle.std.proofs.Common.{◌≡◌, ◌<◌, ◌≤◌, ◌+◌, ◌*◌, ◌/◌, ◌%◌, ℕ, zero, suc, Bool, true, false, not, Result, Ok, Err, Option, Some, None, List, [], ◌∷◌, ◌++◌, length, get_or, map, sum, sym, ap, ◌∙◌, subst, refl, arith, inl, inr, ◌⊎◌}
 use Rattle.std.specs.Prelude.{slice_index, is_some, IfSome, OnOk}
 use Rattle.std.specs.List.{All, Contains}
 use Rattle.std.specs.Ordering.{nat_cmp, ordering_then, ordering_reverse}
@@ -8,12 +8,12 @@ use Rattle.std.specs.declared.cmp.Ordering.{Ordering}
 use Rattle.std.specs.declared.cmp.Ordering.TheVariants.{Less, Equal, Greater}
 use Rattle.std.proofs.lemmas.Cmp.{tied_itself, nat_cmp_total, nat_list_cmp_total}
 use Rattle.std.proofs.lemmas.Bool.{cases_lt}
-use Rattle.std.proofs.lemmas.List.{get_or-map, length-map, map-append, append-nil, append_assoc, length-append, get_or_append_left, get_or_push, get_or_default}
+use Rattle.std.proofs.lemmas.List.{length-map, map-append, append-nil, append_assoc, length-append, get_or_append_left, get_or_push, get_or_default}
 use Rattle.dai_model.specs.Protocol.{Protocol}
-use Rattle.dai_model.specs.Clause.{Clause, atoms_of, atom_number}
+use Rattle.dai_model.specs.Clause.{Clause, atoms_of}
 use Rattle.dai_model.specs.Template.{Bounds, IsTemplate}
-use Rattle.dai_model.specs.Subsumption.{IsCanonical, IsRenaming, print_order}
-use Rattle.dai_model.specs.Shapes.{shapes_within, compare_shapes}
+use Rattle.dai_model.specs.Subsumption.{IsCanonical, print_order}
+use Rattle.dai_model.specs.Shapes.{compare_shapes}
 use Rattle.dai_model.proofs.Below.{Each}
 use Rattle.dai_model.proofs.Order.{Rising, less_from, shapes_in_order}
 use Rattle.dai_model.proofs.Within.{shapes_listed}
