@@ -11,3 +11,4 @@ pub mod Order
 pub mod Triples
 pub mod Within
 pub mod OneAnswer
+pub mod Counting

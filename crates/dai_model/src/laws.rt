@@ -10,7 +10,8 @@ ghost use Rattle.dai_model.specs.Reachable.{IsReachable};
 ghost use Rattle.dai_model.specs.Clause.{Clause, Meets};
 ghost use Rattle.dai_model.specs.Template.{Bounds, IsTemplate};
 ghost use Rattle.dai_model.specs.Shapes.{shapes_within, compare_shapes};
-ghost use Rattle.dai_model.specs.Subsumption.{Subsumes};
+ghost use Rattle.dai_model.specs.Subsumption.{Subsumes, IsRenaming, IsCanonical};
+ghost use Rattle.dai_model.specs.Weakening.{rank_of, IsCovered};
 ghost use Rattle.dai_model.specs.Classes.{Class, all_sizes, up_to, Belongs};
 ghost use Rattle.dai_model.specs.Inductive.{IsInductive, IsInGreatest, LieInOne};
 ghost use Rattle.dai_model.specs.Answer.{IsAnswer};
@@ -76,4 +77,9 @@ pub fn shapes_stand_in_print_order()
 /// Every way to give each type a number of variables up to its bound is one of the shapes.
 pub fn every_shape_is_listed()
     ensures { (bounds counts : List ℕ) → length counts ≡ length bounds → ((sort : ℕ) → slice_index counts sort ≤ slice_index bounds sort) → Contains (shapes_within bounds) counts }
+{}
+
+/// A clause below another one has no more variables and literals together.
+pub fn below_has_no_greater_rank()
+    ensures { (P : Protocol) (B : Bounds) (c d : Clause) → IsTemplate P B c → IsTemplate P B d → Subsumes P c d → rank_of c ≤ rank_of d }
 {}
