@@ -12,3 +12,5 @@ pub mod Triples
 pub mod Within
 pub mod OneAnswer
 pub mod Counting
+pub mod ShapeAtoms
+pub mod MovedAtoms
