@@ -14,3 +14,5 @@ pub mod OneAnswer
 pub mod Counting
 pub mod ShapeAtoms
 pub mod MovedAtoms
+pub mod Ranks
+pub mod OneCanonical

@@ -83,3 +83,15 @@ pub fn every_shape_is_listed()
 pub fn below_has_no_greater_rank()
     ensures { (P : Protocol) (B : Bounds) (c d : Clause) → IsTemplate P B c → IsTemplate P B d → Subsumes P c d → rank_of c ≤ rank_of d }
 {}
+
+/// A clause below another one of no greater rank is a renaming of it: the other is below it too, and has the same
+/// shape and as many literals.
+pub fn below_of_the_same_rank_is_a_renaming()
+    ensures below { (P : Protocol) (B : Bounds) (c d : Clause) → IsTemplate P B c → IsTemplate P B d → Subsumes P c d → rank_of d ≤ rank_of c → Subsumes P d c }
+    ensures renaming { (P : Protocol) (B : Bounds) (c d : Clause) → IsTemplate P B c → IsTemplate P B d → Subsumes P c d → rank_of d ≤ rank_of c → IsRenaming P c d }
+{}
+
+/// Two canonical clauses that are renamings of each other are one.
+pub fn canonical_renamings_are_equal()
+    ensures { (P : Protocol) (B : Bounds) (c d : Clause) → IsTemplate P B c → IsTemplate P B d → IsRenaming P c d → IsCanonical P B c → IsCanonical P B d → c ≡ d }
+{}

@@ -1,7 +1,5 @@
-use Rattle.std.proofs.Common.{ℕ, IsTrue}
-use Rattle.dai_model.proofs.ShapeAtoms.{same_place, atom_listed, atoms_named}
-use Rattle.dai_model.proofs.MovedAtoms.{table_placed, literal_again, literal_in_one, same_literal}
+use Rattle.dai_model.proofs.Ranks.{rank_no_greater}
 use Rattle.dai_model.proofs.laws.below_has_no_greater_rank.Goals as goal
 
 pub returns : goal.returns
-returns c = ?
+returns c = λ P B c d t u sub. rank_no_greater P B c d t u sub
