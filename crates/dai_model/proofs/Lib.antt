@@ -16,3 +16,5 @@ pub mod ShapeAtoms
 pub mod MovedAtoms
 pub mod Ranks
 pub mod OneCanonical
+pub mod Insertion
+pub mod FewerLiterals

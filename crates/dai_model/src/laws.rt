@@ -95,3 +95,8 @@ pub fn below_of_the_same_rank_is_a_renaming()
 pub fn canonical_renamings_are_equal()
     ensures { (P : Protocol) (B : Bounds) (c d : Clause) → IsTemplate P B c → IsTemplate P B d → IsRenaming P c d → IsCanonical P B c → IsCanonical P B d → c ≡ d }
 {}
+
+/// Between a template and another one above it, of greater rank, lies an immediate weakening of the first.
+pub fn weakenings_cover()
+    ensures { (P : Protocol) (B : Bounds) (c d : Clause) → IsTemplate P B c → IsTemplate P B d → Subsumes P c d → rank_of c < rank_of d → IsCovered P B c d }
+{}
