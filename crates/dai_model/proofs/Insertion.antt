@@ -102,7 +102,7 @@ pub from_order : (x : ℕ) (ns : List ℕ) → Among x (in_order ns) → Among x
 from_order x ns h = each_among (λ y. Among y ns) x (in_order ns) (in_order_each (λ y. Among y ns) ns (each_itself ns)) h
 
 -- between places and recursion
-each_from : (P : ℕ → Type 0) (xs : List ℕ) → ((i : ℕ) → i < length xs → P (slice_index xs i)) → Each P xs
+pub each_from : (P : ℕ → Type 0) (xs : List ℕ) → ((i : ℕ) → i < length xs → P (slice_index xs i)) → Each P xs
 each_from P [] h = tt
 each_from P (x ∷ xs) h = (h 0 (omega arith), each_from P xs (λ i k. h (suc i) (omega (arith, k))))
 

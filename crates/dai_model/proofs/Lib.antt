@@ -18,3 +18,6 @@ pub mod Ranks
 pub mod OneCanonical
 pub mod Insertion
 pub mod FewerLiterals
+pub mod NumberedLiterals
+pub mod FewerVariables
+pub mod Covers
