@@ -178,13 +178,13 @@ literal_composed P s counts sizes first second l long p inside =
 pub half_below : (l n : ℕ) → l < 2 * n → l / 2 < n
 half_below l n h = let r : l % 2 < 2 = omega arith in omega arith
 
-literal_inside : (P : Protocol) (B : Bounds) (c : Clause) (k : ℕ) → IsTemplate P B c → k < length c.literals → IsAtomOf c.counts (literal_among (atoms_of P c.counts) (slice_index c.literals k)).atom
+pub literal_inside : (P : Protocol) (B : Bounds) (c : Clause) (k : ℕ) → IsTemplate P B c → k < length c.literals → IsAtomOf c.counts (literal_among (atoms_of P c.counts) (slice_index c.literals k)).atom
 literal_inside P B c k t h =
     let below = half_below (slice_index c.literals k) (length (atoms_of P c.counts)) (t.of_the_shape k 0 h) in
     Each-at (IsAtomOf c.counts) (atoms_of P c.counts) (slice_index c.literals k / 2) no_atom below (atoms_inside P c.counts)
 
 -- each literal of a template is over an atom of its shape
-pub literals_inside : (P : Protocol) (B : Bounds) (c : Clause) → IsTemplate P B c → (l : Literal) → Contains (literals_of P c) l → IsAtomOf c.counts l.atom
+literals_inside : (P : Protocol) (B : Bounds) (c : Clause) → IsTemplate P B c → (l : Literal) → Contains (literals_of P c) l → IsAtomOf c.counts l.atom
 literals_inside P B c t l h =
     let long = length-map c.literals (literal_among (atoms_of P c.counts)) in
     let below : h.0 < length c.literals = let k = h.1 in omega arith in

@@ -1,12 +1,11 @@
 -- A clause that is below another one of greater rank is so through one of its immediate weakenings.
-use Rattle.std.proofs.Common.{◌≡◌, ◌<◌, ◌≤◌, ◌+◌, ℕ, zero, suc, length, sym, ◌∙◌, refl, arith, inl, inr, ◌⊎◌}
-use Rattle.std.specs.Prelude.{sum}
+use Rattle.std.proofs.Common.{◌≡◌, ◌<◌, ◌≤◌, ◌+◌, ℕ, zero, suc, length, sym, ◌∙◌, arith, inl, inr, ◌⊎◌}
 use Rattle.std.proofs.lemmas.Bool.{cases_lt, cases_eq}
 use Rattle.dai_model.specs.Protocol.{Protocol}
 use Rattle.dai_model.specs.Clause.{Clause}
 use Rattle.dai_model.specs.Template.{Bounds, IsTemplate}
 use Rattle.dai_model.specs.Subsumption.{Subsumes}
-use Rattle.dai_model.specs.Weakening.{rank_of, IsImmediateWeakening, IsCovered}
+use Rattle.dai_model.specs.Weakening.{rank_of, IsCovered}
 use Rattle.dai_model.proofs.Below.{below-refl, below-trans}
 use Rattle.dai_model.proofs.Counting.{less_somewhere}
 use Rattle.dai_model.proofs.Ranks.{literals_no_fewer}

@@ -1,18 +1,18 @@
 -- Between a clause and one with more literals lies the latter without a literal that is no image.
-use Rattle.std.proofs.Common.{◌≡◌, ◌≢◌, ◌<◌, ◌≤◌, ◌+◌, ◌-◌, ◌*◌, ℕ, List, get_or, length, map, sym, ◌∙◌, ap, subst, refl, arith, inl, inr, ◌⊎◌}
+use Rattle.std.proofs.Common.{◌≡◌, ◌≢◌, ◌<◌, ◌≤◌, ◌+◌, ◌-◌, ◌*◌, ℕ, List, length, sym, ◌∙◌, ap, subst, refl, arith, inl, inr, ◌⊎◌}
 use Rattle.std.specs.Prelude.{slice_index, remove}
 use Rattle.std.specs.List.{Contains}
 use Rattle.std.proofs.lemmas.Bool.{cases_lt}
 use Rattle.std.proofs.lemmas.List.Elements.{All-from_get_or}
 use Rattle.std.proofs.lemmas.List.Edits.{length-remove, get_or-remove_below, get_or-remove_above}
 use Rattle.dai_model.specs.Protocol.{Protocol}
-use Rattle.dai_model.specs.Clause.{Clause, Literal, literal_among, literals_of, atoms_of, atom_number}
+use Rattle.dai_model.specs.Clause.{Clause, literal_among, literals_of, atoms_of, atom_number}
 use Rattle.dai_model.specs.Template.{Bounds, IsTemplate}
 use Rattle.dai_model.specs.Subsumption.{image_of, Subsumes}
 use Rattle.dai_model.specs.Weakening.{rank_of}
 use Rattle.dai_model.proofs.Below.{below-refl}
 use Rattle.dai_model.proofs.Counting.{IsHit, left_out}
-use Rattle.dai_model.proofs.Ranks.{literal_at, literal_there, literal_place, IsAt, target, targeted}
+use Rattle.dai_model.proofs.Ranks.{literal_at, literal_there, literal_place, target, targeted}
 
 -- a clause that lies between two, with one variable or literal less than the second
 pub record IsNextBelow (P : Protocol) (B : Bounds) (c d between : Clause) : Type 0 where
@@ -86,9 +86,9 @@ module _ (P : Protocol) (B : Bounds) (c d : Clause) (t : IsTemplate P B c) (u : 
         few_variables = u.few_variables;
         few_literals = let few = u.few_literals in omega (arith, few, long);
         of_the_shape = All-from_get_or (λ l. l < 2 * length (atoms_of P d.counts)) (remove d.literals j) 0
-        (λ k below.
-          let there : widened j k < length d.literals = let w = widened_inside (length (remove d.literals j)) j k (omega (arith, inside, long)) below in omega (arith, w, long) in
-          subst (λ n. n < 2 * length (atoms_of P d.counts)) (sym (removed_at d.literals j k inside)) (u.of_the_shape (widened j k) 0 there));
+            (λ k below.
+            let there : widened j k < length d.literals = let w = widened_inside (length (remove d.literals j)) j k (omega (arith, inside, long)) below in omega (arith, w, long) in
+            subst (λ n. n < 2 * length (atoms_of P d.counts)) (sym (removed_at d.literals j k inside)) (u.of_the_shape (widened j k) 0 there));
         each_atom_once = λ i k before below.
             let rises = widened_rises j i k before in
             let there : widened j k < length d.literals = let w = widened_inside (length (remove d.literals j)) j k (omega (arith, inside, long)) below in omega (arith, w, long) in

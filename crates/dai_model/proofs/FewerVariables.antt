@@ -1,7 +1,7 @@
 -- Between a clause and one with more variables lies the first clause's literals in the shape of the second without a
 -- variable that is no image.
 use Rattle.std.proofs.Common.{◌≡◌, ◌≢◌, ◌<◌, ◌≤◌, ◌+◌, ◌-◌, ◌*◌, ℕ, Bool, true, false, List, Some, get_or, set, length, sym, ◌∙◌, ap, subst, refl, arith, inl, inr, ◌⊎◌}
-use Rattle.std.specs.Prelude.{slice_get, slice_index, sum}
+use Rattle.std.specs.Prelude.{slice_get, slice_index}
 use Rattle.std.specs.List.{Contains}
 use Rattle.std.proofs.lemmas.Bool.{cases_lt, cases_eq}
 use Rattle.std.proofs.lemmas.List.{get_or-set_same, get_or-set_other, length-set}
@@ -13,14 +13,14 @@ use Rattle.dai_model.specs.Clause.{Clause, Literal, literal_among, literals_of, 
 use Rattle.dai_model.specs.Template.{Bounds, IsTemplate}
 use Rattle.dai_model.specs.Subsumption.{image_of, image_of_atom, image_of_variable, Subsumes}
 use Rattle.dai_model.specs.Weakening.{rank_of}
-use Rattle.dai_model.proofs.Below.{IsAtomOf, Each-at, count_within, slice_get-some}
+use Rattle.dai_model.proofs.Below.{IsAtomOf, Each-at, literal_inside, count_within, slice_get-some}
 use Rattle.dai_model.proofs.Order.{Rising-at}
 use Rattle.dai_model.proofs.Counting.{IsHit, left_out}
 use Rattle.dai_model.proofs.ShapeAtoms.{IsNamed}
 use Rattle.dai_model.proofs.MovedAtoms.{Places, table, table-at, table_placed, AreTwoInOne, literal_in_one, atom_moved, named_moved, same_atom}
-use Rattle.dai_model.proofs.Ranks.{literal_at, literal_there, literal_place, literal_inside, same_atom_place}
-use Rattle.dai_model.proofs.Insertion.{IsBefore, IsApart, in_order, in_order_each, in_order_rising, in_order_length, in_order_among, from_order, each_from, rising_from, among_place, place_among}
-use Rattle.dai_model.proofs.NumberedLiterals.{IsNumberOf, literal_named, AreNumbersOf, numbers_of}
+use Rattle.dai_model.proofs.Ranks.{literal_at, literal_there, literal_place, same_atom_place}
+use Rattle.dai_model.proofs.Insertion.{IsAtomBefore, IsApart, in_order, in_order_each, in_order_rising, in_order_length, in_order_among, from_order, each_from, rising_from, among_place, place_among}
+use Rattle.dai_model.proofs.NumberedLiterals.{literal_named, AreNumbersOf, numbers_of}
 use Rattle.dai_model.proofs.FewerLiterals.{IsNextBelow, widened, widened_cases, widened_rises}
 
 -- the number of a variable when the one of this number is gone
@@ -184,9 +184,10 @@ module _ (P : Protocol) (B : Bounds) (c d : Clause) (t : IsTemplate P B c) (u : 
   image_at i = image_of to_between (literal_at P c i)
 
   fits : (i : ℕ) → i < length c.literals → IsNamed P (image_at i).atom × IsAtomOf fewer (image_at i).atom
-  fits i below =
-      (named_moved P to_between (literal_at P c i).atom (literal_named P B c i t below),
-      atom_moved P c.counts fewer to_between (literal_at P c i).atom t.one_count_each first_placed (literal_inside P B c i t below))
+  fits i below = (
+    named_moved P to_between (literal_at P c i).atom (literal_named P B c i t below),
+    atom_moved P c.counts fewer to_between (literal_at P c i).atom t.one_count_each first_placed (literal_inside P B c i t below),
+  )
 
   module _ (numbers : List ℕ) (are : AreNumbersOf P fewer (length c.literals) image_at numbers) where
     abbrev smaller : Clause
@@ -223,7 +224,7 @@ module _ (P : Protocol) (B : Bounds) (c d : Clause) (t : IsTemplate P B c) (u : 
       few_variables = λ sort. let a = few_at sort (cases_eq sort s) in let b = u.few_variables sort in omega (arith, a, b);
       few_literals = let few = t.few_literals in let long = smaller_length in omega (arith, few, long);
       of_the_shape = All-from_get_or (λ l. l < 2 * length (atoms_of P fewer)) (in_order numbers) 0 all_below;
-      each_atom_once = λ i j before below. Rising-at IsBefore (in_order numbers) i j 0 before below (in_order_rising numbers (rising_from IsApart numbers numbers_apart));
+      each_atom_once = λ i j before below. Rising-at IsAtomBefore (in_order numbers) i j 0 before below (in_order_rising numbers (rising_from IsApart numbers numbers_apart));
     }
 
     smaller_above : Subsumes P c smaller

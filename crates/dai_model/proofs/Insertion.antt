@@ -1,14 +1,14 @@
 -- Literals put in order of their atoms, one by one.
-use Rattle.std.proofs.Common.{◌≡◌, ◌≢◌, ◌<◌, ◌≤◌, ◌/◌, ℕ, zero, suc, List, [], ◌∷◌, get_or, length, sym, ◌∙◌, ap, subst, refl, arith, inl, inr, ◌⊎◌}
+use Rattle.std.proofs.Common.{◌≡◌, ◌≢◌, ◌<◌, ◌≤◌, ◌/◌, ℕ, zero, suc, List, [], ◌∷◌, length, ◌∙◌, ap, subst, refl, arith, inl, inr, ◌⊎◌}
 use Rattle.std.specs.Prelude.{slice_index}
 use Rattle.std.proofs.lemmas.Bool.{cases_lt}
-use Rattle.dai_model.proofs.Below.{Each}
+use Rattle.dai_model.proofs.Below.{Each, Each-weaker}
 use Rattle.dai_model.proofs.Order.{Rising}
 use Rattle.dai_model.proofs.Within.{Among}
 
--- the literal's atom comes before the other's, or is another one
-abbrev pub IsBefore : ℕ → ℕ → Type 0
-IsBefore l m = l / 2 < m / 2
+-- the literal's atom comes before the other's, and is another one
+abbrev pub IsAtomBefore : ℕ → ℕ → Type 0
+IsAtomBefore l m = l / 2 < m / 2
 
 abbrev pub IsApart : ℕ → ℕ → Type 0
 IsApart l m = l / 2 ≢ m / 2
@@ -33,23 +33,19 @@ put_each P n (m ∷ ms) here h = by_place (cases_lt n m) (put_each P n ms here h
     by_place (inl below) rest = (here, h)
     by_place (inr above) rest = (h.0, rest)
 
-each_to : (P Q : ℕ → Type 0) (ms : List ℕ) → ((m : ℕ) → P m → Q m) → Each P ms → Each Q ms
-each_to P Q [] step h = tt
-each_to P Q (m ∷ ms) step h = (step m h.0, each_to P Q ms step h.1)
-
-put_rising : (n : ℕ) (ms : List ℕ) → Rising IsBefore ms → Each (IsApart n) ms → Rising IsBefore (put n ms)
+put_rising : (n : ℕ) (ms : List ℕ) → Rising IsAtomBefore ms → Each (IsApart n) ms → Rising IsAtomBefore (put n ms)
 put_rising n [] h k = (tt, tt)
 put_rising n (m ∷ ms) h k = by_place (cases_lt n m) (put_rising n ms h.1 k.1)
   where
-    by_place : (o : (n < m) ⊎ (m ≤ n)) → Rising IsBefore (put n ms) → Rising IsBefore (placed_by ms (put n ms) o)
+    by_place : (o : (n < m) ⊎ (m ≤ n)) → Rising IsAtomBefore (put n ms) → Rising IsAtomBefore (placed_by ms (put n ms) o)
     by_place (inl below) rest =
         let apart : n / 2 ≢ m / 2 = k.0 in
         let before : n / 2 < m / 2 = omega (arith, below, apart) in
-        ((before, each_to (IsBefore m) (IsBefore n) ms (λ x l. omega (arith, before, l)) h.0), h)
+        ((before, Each-weaker (IsAtomBefore m) (IsAtomBefore n) ms (λ x l. omega (arith, before, l)) h.0), h)
     by_place (inr above) rest =
         let apart : n / 2 ≢ m / 2 = k.0 in
         let before : m / 2 < n / 2 = omega (arith, above, apart) in
-        (put_each (IsBefore m) n ms before h.0, rest)
+        (put_each (IsAtomBefore m) n ms before h.0, rest)
 
 put_length : (n : ℕ) (ms : List ℕ) → length (put n ms) ≡ suc (length ms)
 put_length n [] = refl
@@ -76,7 +72,7 @@ pub in_order_each : (P : ℕ → Type 0) (ns : List ℕ) → Each P ns → Each 
 in_order_each P [] h = tt
 in_order_each P (n ∷ ns) h = put_each P n (in_order ns) h.0 (in_order_each P ns h.1)
 
-pub in_order_rising : (ns : List ℕ) → Rising IsApart ns → Rising IsBefore (in_order ns)
+pub in_order_rising : (ns : List ℕ) → Rising IsApart ns → Rising IsAtomBefore (in_order ns)
 in_order_rising [] h = tt
 in_order_rising (n ∷ ns) h = put_rising n (in_order ns) (in_order_rising ns h.1) (in_order_each (IsApart n) ns h.0)
 
@@ -91,7 +87,7 @@ in_order_among x (n ∷ ns) (inr h) = put_among x n (in_order ns) (inr (in_order
 
 each_itself : (xs : List ℕ) → Each (λ x. Among x xs) xs
 each_itself [] = tt
-each_itself (x ∷ xs) = (inl refl, each_to (λ y. Among y xs) (λ y. Among y (x ∷ xs)) xs (λ y h. inr h) (each_itself xs))
+each_itself (x ∷ xs) = (inl refl, Each-weaker (λ y. Among y xs) (λ y. Among y (x ∷ xs)) xs (λ y h. inr h) (each_itself xs))
 
 pub each_among : (P : ℕ → Type 0) (x : ℕ) (xs : List ℕ) → Each P xs → Among x xs → P x
 each_among P x [] h k = absurd k

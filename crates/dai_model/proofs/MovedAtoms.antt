@@ -1,12 +1,12 @@
 -- What an injection of variables does to the atoms and literals of a shape: they stay atoms of the protocol, and no two
 -- become one.
-use Rattle.std.proofs.Common.{◌≡◌, ◌≢◌, ◌<◌, ◌≤◌, ◌+◌, ℕ, zero, suc, Bool, true, false, List, [], ◌∷◌, get_or, length, map, Some, sym, ◌∙◌, ap, subst, refl, arith}
+use Rattle.std.proofs.Common.{◌≡◌, ◌≢◌, ◌<◌, ℕ, Bool, true, false, List, [], ◌∷◌, length, map, Some, sym, ◌∙◌, ap, subst, refl, arith}
 use Rattle.std.specs.Prelude.{slice_get, slice_index}
 use Rattle.std.proofs.lemmas.Bool.{cases_lt}
 use Rattle.std.proofs.lemmas.List.{get_or-map, length-map}
 use Rattle.dai_model.specs.Protocol.{Protocol, Sort}
 use Rattle.dai_model.specs.Placement.{Apart, IsPlacement, of_sort, ArePlacements}
-use Rattle.dai_model.specs.Clause.{Variable, Atom, tuple, is_individual, Literal, numbers_below, value_at}
+use Rattle.dai_model.specs.Clause.{Variable, Atom, tuple, is_individual, Literal, numbers_below}
 use Rattle.dai_model.specs.Subsumption.{image_of_variable, image_of_atom, image_of}
 use Rattle.dai_model.proofs.Typed.{slice_get-length}
 use Rattle.dai_model.proofs.Folds.{numbers_below-length}

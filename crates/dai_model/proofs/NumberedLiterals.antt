@@ -1,10 +1,9 @@
 -- Numbers for literals over the atoms of a shape.
-use Rattle.std.proofs.Common.{◌≡◌, ◌<◌, ◌≤◌, ◌+◌, ◌*◌, ◌/◌, ◌%◌, ℕ, zero, suc, Bool, true, false, List, [], ◌∷◌, get_or, length, ap, ◌∙◌, subst, sym, refl, arith}
+use Rattle.std.proofs.Common.{◌≡◌, ◌<◌, ◌+◌, ◌*◌, ◌/◌, ◌%◌, ℕ, zero, suc, Bool, true, false, List, [], ◌∷◌, get_or, length, ap, ◌∙◌, refl, arith}
 use Rattle.std.specs.Prelude.{slice_index, nat_eq}
-use Rattle.std.specs.List.{Contains}
 use Rattle.std.proofs.lemmas.List.{get_or_default}
 use Rattle.dai_model.specs.Protocol.{Protocol}
-use Rattle.dai_model.specs.Clause.{Clause, Atom, Literal, literal_among, literals_of, atoms_of, atom_number, no_atom}
+use Rattle.dai_model.specs.Clause.{Clause, Literal, literal_among, atoms_of, atom_number, no_atom}
 use Rattle.dai_model.specs.Template.{Bounds, IsTemplate}
 use Rattle.dai_model.proofs.Below.{IsAtomOf, Each-at, half_below}
 use Rattle.dai_model.proofs.ShapeAtoms.{IsNamed, atoms_named, atom_listed}

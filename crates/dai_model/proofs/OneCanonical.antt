@@ -1,5 +1,5 @@
 -- Of the renamings of a clause one alone is canonical.
-use Rattle.std.proofs.Common.{◌≡◌, ◌≢◌, ◌<◌, ◌≤◌, ◌+◌, ℕ, List, [], ◌∷◌, length, sym, ◌∙◌, ap, refl, arith}
+use Rattle.std.proofs.Common.{◌≡◌, ◌≢◌, ◌<◌, ℕ, List, [], ◌∷◌, sym, ap, refl, arith}
 use Rattle.std.specs.Prelude.{sum}
 use Rattle.std.specs.Ordering.{nat_cmp, ordering_then, ordering_reverse, MatchOrdering}
 use Rattle.std.specs.Cmp.Lexicographic.{slice_cmp}
@@ -9,7 +9,7 @@ use Rattle.std.proofs.lemmas.Cmp.{ranked, nat_list_cmp_total}
 use Rattle.dai_model.specs.Protocol.{Protocol}
 use Rattle.dai_model.specs.Clause.{Clause}
 use Rattle.dai_model.specs.Template.{Bounds, IsTemplate}
-use Rattle.dai_model.specs.Subsumption.{compare_literals, Subsumes, IsRenaming, IsCanonical}
+use Rattle.dai_model.specs.Subsumption.{compare_literals, IsRenaming, IsCanonical}
 use Rattle.dai_model.specs.Weakening.{rank_of}
 use Rattle.dai_model.proofs.Ranks.{below_again}
 

@@ -95,7 +95,7 @@ less_by m n Greater h k = absurd (let e : n < m = h in omega arith)
 pub less_from : (m n : ℕ) → m < n → nat_cmp m n ≡ Less
 less_from m n h = less_by m n (nat_cmp m n) (ranked m n (nat_cmp m n) refl) h
 
-numbers_under : (n m : ℕ) → n ≤ m → Each (λ k. k < m) (numbers_below n)
+pub numbers_under : (n m : ℕ) → n ≤ m → Each (λ k. k < m) (numbers_below n)
 numbers_under zero m h = tt
 numbers_under (suc n) m h = Each-append (λ k. k < m) (numbers_below n) (n ∷ []) (numbers_under n m (omega arith)) (omega arith, tt)
 

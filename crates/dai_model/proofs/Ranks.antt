@@ -1,6 +1,6 @@
 -- A clause below another one has no more variables of any type and no more literals; where it has as many of both, it
 -- is a renaming.
-use Rattle.std.proofs.Common.{◌≡◌, ◌≢◌, ◌<◌, ◌≤◌, ◌+◌, ◌*◌, ◌/◌, ℕ, Bool, true, false, length, get_or, map, Some, sym, ◌∙◌, ap, subst, refl, arith, inl, inr, ◌⊎◌}
+use Rattle.std.proofs.Common.{◌≡◌, ◌≢◌, ◌<◌, ◌≤◌, ℕ, Bool, true, false, length, Some, sym, ◌∙◌, ap, subst, refl, arith, inl, inr, ◌⊎◌}
 use Rattle.std.specs.Prelude.{slice_get, slice_index, sum}
 use Rattle.std.specs.List.{Contains}
 use Rattle.std.proofs.lemmas.Bool.{cases_lt}
@@ -11,10 +11,10 @@ use Rattle.dai_model.specs.Clause.{Clause, Literal, literal_among, literals_of, 
 use Rattle.dai_model.specs.Template.{Bounds, IsTemplate}
 use Rattle.dai_model.specs.Subsumption.{image_of, image_of_variable, Subsumes, IsRenaming}
 use Rattle.dai_model.specs.Weakening.{rank_of}
-use Rattle.dai_model.proofs.Below.{IsAtomOf, half_below, literals_inside, slice_get-some, count_within}
-use Rattle.dai_model.proofs.Counting.{IsOneToOne, no_fewer, same_number, IsHit, hits_each, back, back_hits, back_again, sum_no_more, same_sum}
+use Rattle.dai_model.proofs.Below.{half_below, literal_inside, slice_get-some, count_within}
+use Rattle.dai_model.proofs.Counting.{IsOneToOne, no_fewer, IsHit, hits_each, back, back_hits, back_again, sum_no_more, same_sum}
 use Rattle.dai_model.proofs.ShapeAtoms.{same_place}
-use Rattle.dai_model.proofs.MovedAtoms.{placed_one_to_one, sort_placed, same_literal, AreTwoInOne, literal_again, table, table-at, table_placed, Places}
+use Rattle.dai_model.proofs.MovedAtoms.{placed_one_to_one, same_literal, AreTwoInOne, literal_again, table, table-at, table_placed, Places}
 
 abbrev pub literal_at : Protocol → Clause → ℕ → Literal
 literal_at P c i = literal_among (atoms_of P c.counts) (slice_index c.literals i)
@@ -35,9 +35,6 @@ literal_place P c l h =
     let inside = h.1 in
     let below : h.0 < length c.literals = omega (arith, long, inside) in
     record { below = below; is = sym (get_or-map (literal_among (atoms_of P c.counts)) c.literals h.0 0 l below) ∙ h.2 }
-
-pub literal_inside : (P : Protocol) (B : Bounds) (c : Clause) (i : ℕ) → IsTemplate P B c → i < length c.literals → IsAtomOf c.counts (literal_at P c i).atom
-literal_inside P B c i t below = literals_inside P B c t (literal_at P c i) (literal_there P c i below)
 
 -- no two literals of a template have one atom
 pub same_atom_place : (P : Protocol) (B : Bounds) (c : Clause) (i j : ℕ) → IsTemplate P B c → i < length c.literals → j < length c.literals → (literal_at P c i).atom ≡ (literal_at P c j).atom → i ≡ j

@@ -1,13 +1,13 @@
 -- The atoms of a shape: each names a relation or an individual of the protocol, each that can be made stands among
 -- them, and none stands twice.
-use Rattle.std.proofs.Common.{◌≡◌, ◌≢◌, ◌<◌, ◌≤◌, ◌+◌, ℕ, zero, suc, Bool, true, false, List, [], ◌∷◌, ◌++◌, get_or, length, map, Some, sym, ◌∙◌, ap, subst, refl, arith, inl, inr, ◌⊎◌}
+use Rattle.std.proofs.Common.{◌≡◌, ◌≢◌, ◌<◌, ◌≤◌, ◌+◌, ℕ, zero, suc, Bool, true, false, List, [], ◌∷◌, get_or, length, map, Some, sym, ◌∙◌, ap, subst, refl, arith, inl, inr, ◌⊎◌}
 use Rattle.std.specs.Prelude.{slice_get, slice_index}
 use Rattle.std.specs.List.{Contains, flat_map, enumerate_from}
 use Rattle.std.proofs.lemmas.Bool.{cases_lt}
 use Rattle.dai_model.specs.Protocol.{Protocol, Relation, Individual}
 use Rattle.dai_model.specs.Clause.{Variable, Atom, tuple, is_individual, numbers_below, variables_of, choose_each, relation_atoms, individual_atoms, atoms_of}
 use Rattle.dai_model.proofs.Below.{Each, Each-append, Each-map, Each-flat_map, Each-any, Each-weaker, IsVariableOf, IsAtomOf}
-use Rattle.dai_model.proofs.Order.{Rising, Rising-append, Rising-map, Rising-at}
+use Rattle.dai_model.proofs.Order.{Rising, Rising-append, Rising-map, Rising-at, numbers_under}
 use Rattle.dai_model.proofs.Within.{Among, among_left, among_right, among_map, among_flat_map, among_numbers}
 
 abbrev pub sorts_of : List Variable → List ℕ
@@ -109,10 +109,6 @@ flat_differ f own read (x ∷ xs) rising each reads =
     rising.0)
     (reads x))
 
-numbers_under : (n m : ℕ) → n ≤ m → Each (λ k. k < m) (numbers_below n)
-numbers_under zero m h = tt
-numbers_under (suc n) m h = Each-append (λ k. k < m) (numbers_below n) (n ∷ []) (numbers_under n m (omega (arith, h))) (omega (arith, h), tt)
-
 numbers_differ : (n : ℕ) → Rising Differ (numbers_below n)
 numbers_differ zero = tt
 numbers_differ (suc n) =
@@ -147,9 +143,10 @@ pairs_from m n (x ∷ xs) h = (h, pairs_from m (n + 1) xs (omega (arith, h)))
 
 pairs_differ : {X : Type 0} (n : ℕ) (xs : List X) → Rising (λ (p q : ℕ × X). p.0 ≢ q.0) (enumerate_from n xs)
 pairs_differ n [] = tt
-pairs_differ {X} n (x ∷ xs) =
-    (Each-weaker (λ (p : ℕ × X). n < p.0) (λ (p : ℕ × X). n ≢ p.0) (enumerate_from (n + 1) xs) (λ p before e. let none : ⊥ = omega (arith, before, e) in none) (pairs_from n (n + 1) xs (omega arith)),
-    pairs_differ (n + 1) xs)
+pairs_differ {X} n (x ∷ xs) = (
+  Each-weaker (λ (p : ℕ × X). n < p.0) (λ (p : ℕ × X). n ≢ p.0) (enumerate_from (n + 1) xs) (λ p before e. let none : ⊥ = omega (arith, before, e) in none) (pairs_from n (n + 1) xs (omega arith)),
+  pairs_differ (n + 1) xs,
+)
 
 -- the number of the relation or individual, and which of the two it is
 abbrev symbol_of : Atom → ℕ
