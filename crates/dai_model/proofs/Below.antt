@@ -19,27 +19,27 @@ abbrev pub Each : {X : Type 0} → (X → Type 0) → List X → Type 0
 Each P [] = Unit {0}
 Each P (x ∷ xs) = P x × Each P xs
 
-Each-append : {X : Type 0} (P : X → Type 0) (xs ys : List X) → Each P xs → Each P ys → Each P (xs ++ ys)
+pub Each-append : {X : Type 0} (P : X → Type 0) (xs ys : List X) → Each P xs → Each P ys → Each P (xs ++ ys)
 Each-append P [] ys h k = k
 Each-append P (x ∷ xs) ys h k = (h.0, Each-append P xs ys h.1 k)
 
-Each-map : {X Y : Type 0} (P : X → Type 0) (Q : Y → Type 0) (f : X → Y) (xs : List X) → ((x : X) → P x → Q (f x)) → Each P xs → Each Q (map f xs)
+pub Each-map : {X Y : Type 0} (P : X → Type 0) (Q : Y → Type 0) (f : X → Y) (xs : List X) → ((x : X) → P x → Q (f x)) → Each P xs → Each Q (map f xs)
 Each-map P Q f [] step h = tt
 Each-map P Q f (x ∷ xs) step h = (step x h.0, Each-map P Q f xs step h.1)
 
-Each-flat_map : {X Y : Type 0} (P : X → Type 0) (Q : Y → Type 0) (f : X → List Y) (xs : List X) → ((x : X) → P x → Each Q (f x)) → Each P xs → Each Q (flat_map f xs)
+pub Each-flat_map : {X Y : Type 0} (P : X → Type 0) (Q : Y → Type 0) (f : X → List Y) (xs : List X) → ((x : X) → P x → Each Q (f x)) → Each P xs → Each Q (flat_map f xs)
 Each-flat_map P Q f [] step h = tt
 Each-flat_map P Q f (x ∷ xs) step h = Each-append Q (f x) _ (step x h.0) (Each-flat_map P Q f xs step h.1)
 
-Each-any : {X : Type 0} (P : X → Type 0) (xs : List X) → ((x : X) → P x) → Each P xs
+pub Each-any : {X : Type 0} (P : X → Type 0) (xs : List X) → ((x : X) → P x) → Each P xs
 Each-any P [] h = tt
 Each-any P (x ∷ xs) h = (h x, Each-any P xs h)
 
-Each-weaker : {X : Type 0} (P Q : X → Type 0) (xs : List X) → ((x : X) → P x → Q x) → Each P xs → Each Q xs
+pub Each-weaker : {X : Type 0} (P Q : X → Type 0) (xs : List X) → ((x : X) → P x → Q x) → Each P xs → Each Q xs
 Each-weaker P Q [] h k = tt
 Each-weaker P Q (x ∷ xs) h k = (h x k.0, Each-weaker P Q xs h k.1)
 
-Each-at : {X : Type 0} (P : X → Type 0) (xs : List X) (k : ℕ) (d : X) → k < length xs → Each P xs → P (get_or xs k d)
+pub Each-at : {X : Type 0} (P : X → Type 0) (xs : List X) (k : ℕ) (d : X) → k < length xs → Each P xs → P (get_or xs k d)
 Each-at P [] k d h e = absurd (omega arith)
 Each-at P (x ∷ xs) zero d h e = e.0
 Each-at P (x ∷ xs) (suc k) d h e = Each-at P xs k d (omega arith) e.1
@@ -89,7 +89,7 @@ number_at_end n k d h e rec (inr last) =
     let there : length (numbers_below n) ≡ k = omega arith in
     get_or_push (numbers_below n) n d k there ∙ sym same
 
-numbers_below-at : (n k d : ℕ) → k < n → get_or (numbers_below n) k d ≡ k
+pub numbers_below-at : (n k d : ℕ) → k < n → get_or (numbers_below n) k d ≡ k
 numbers_below-at zero k d h = absurd (omega arith)
 numbers_below-at (suc n) k d h = number_at_end n k d h (numbers_below-length n) (λ below. numbers_below-at n k d below) (cases_lt k n)
 
@@ -108,10 +108,10 @@ value_at-composed : (second first : List (List ℕ)) (v : Variable) → v.sort <
 value_at-composed second first v h k =
     ap (λ xs. slice_index xs v.number) (composed-of_sort second first v.sort h) ∙ get_or-map (slice_index (of_sort second v.sort)) (of_sort first v.sort) v.number 0 0 k
 
-placed_length : {P : Protocol} {counts sizes : List ℕ} {first : List (List ℕ)} → ArePlacements P counts sizes first → (sort : ℕ) (T : Sort) → slice_get P.sorts sort ≡ Some T → sort < length first
+pub placed_length : {P : Protocol} {counts sizes : List ℕ} {first : List (List ℕ)} → ArePlacements P counts sizes first → (sort : ℕ) (T : Sort) → slice_get P.sorts sort ≡ Some T → sort < length first
 placed_length p sort T h = let k = slice_get-length _ sort T h in omega (arith, k, p.one_list_each)
 
-apart_at : (ordered : Bool) (count size : ℕ) (xs : List ℕ) (i j : ℕ) → IsPlacement ordered count size xs → i < count → j < count → Apart ordered i j → Apart ordered (slice_index xs i) (slice_index xs j)
+pub apart_at : (ordered : Bool) (count size : ℕ) (xs : List ℕ) (i j : ℕ) → IsPlacement ordered count size xs → i < count → j < count → Apart ordered i j → Apart ordered (slice_index xs i) (slice_index xs j)
 apart_at true count size xs i j p hi hj apart = p.apart i j apart hj
 apart_at false count size xs i j p hi hj apart = apart_either (cases_lt i j)
   where
@@ -143,11 +143,11 @@ composed_placements P a b sizes first second p q = record {
       (composed_placement T.ordered (slice_index a sort) (slice_index b sort) (slice_index sizes sort) (of_sort first sort) (of_sort second sort) (p.each sort T h) (q.each sort T h));
 }
 
-count_within : (counts : List ℕ) (sort number : ℕ) → number < slice_index counts sort → (sort < length counts) ⊎ (length counts ≤ sort) → sort < length counts
+pub count_within : (counts : List ℕ) (sort number : ℕ) → number < slice_index counts sort → (sort < length counts) ⊎ (length counts ≤ sort) → sort < length counts
 count_within counts sort number h (inl below) = below
 count_within counts sort number h (inr past) = let e = get_or_past counts sort 0 past in absurd (omega arith)
 
-slice_get-some : {A : Type 0} (xs : List A) (i : ℕ) → i < length xs → (x : A) × (slice_get xs i ≡ Some x)
+pub slice_get-some : {A : Type 0} (xs : List A) (i : ℕ) → i < length xs → (x : A) × (slice_get xs i ≡ Some x)
 slice_get-some [] i h = absurd (omega arith)
 slice_get-some (x ∷ xs) zero h = (x, refl)
 slice_get-some (x ∷ xs) (suc i) h = slice_get-some xs i (omega arith)
@@ -175,10 +175,10 @@ literal_composed : (P : Protocol) (s : Structure) (counts sizes : List ℕ) (fir
 literal_composed P s counts sizes first second l long p inside =
     ap (λ b. if l.negated then not b else b) (atom_composed P s counts sizes first second l.atom long p inside)
 
-half_below : (l n : ℕ) → l < 2 * n → l / 2 < n
+pub half_below : (l n : ℕ) → l < 2 * n → l / 2 < n
 half_below l n h = let r : l % 2 < 2 = omega arith in omega arith
 
-literal_inside : (P : Protocol) (B : Bounds) (c : Clause) (k : ℕ) → IsTemplate P B c → k < length c.literals → IsAtomOf c.counts (literal_among (atoms_of P c.counts) (slice_index c.literals k)).atom
+pub literal_inside : (P : Protocol) (B : Bounds) (c : Clause) (k : ℕ) → IsTemplate P B c → k < length c.literals → IsAtomOf c.counts (literal_among (atoms_of P c.counts) (slice_index c.literals k)).atom
 literal_inside P B c k t h =
     let below = half_below (slice_index c.literals k) (length (atoms_of P c.counts)) (t.of_the_shape k 0 h) in
     Each-at (IsAtomOf c.counts) (atoms_of P c.counts) (slice_index c.literals k / 2) no_atom below (atoms_inside P c.counts)

@@ -1,5 +1,5 @@
 -- Unions of inductive lists, and what the greatest inductive set says of reachable states.
-use Rattle.std.proofs.Common.{◌≡◌, ℕ, zero, suc, ◌∷◌, ◌++◌, List, [], refl, sym, subst, arith, ⊎_elim}
+use Rattle.std.proofs.Common.{◌≡◌, ℕ, zero, suc, ◌∷◌, ◌++◌, List, [], refl, subst, arith, ⊎_elim}
 use Rattle.std.proofs.lemmas.List.Elements.{All-contains, Contains-append_left, Contains-append_right, Contains-append_cases}
 use Rattle.dai_model.specs.Protocol.{Protocol, Action}
 use Rattle.dai_model.specs.Structure.{Structure, IsStructure}

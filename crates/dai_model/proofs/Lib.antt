@@ -11,3 +11,13 @@ pub mod Order
 pub mod Triples
 pub mod Within
 pub mod OneAnswer
+pub mod Counting
+pub mod ShapeAtoms
+pub mod MovedAtoms
+pub mod Ranks
+pub mod OneCanonical
+pub mod Insertion
+pub mod FewerLiterals
+pub mod NumberedLiterals
+pub mod FewerVariables
+pub mod Covers

@@ -1,21 +1,18 @@
 -- At most one answer and one report: a list that is in strict order is known by its members.
-use Rattle.std.proofs.Common.{◌≡◌, ◌≢◌, ◌<◌, ◌+◌, ℕ, zero, suc, Bool, true, false, List, [], ◌∷◌, length, get_or, Some, None, map, sym, ◌∙◌, ap, subst, refl, arith, inl, inr, ◌⊎◌, ⊎_elim}
-use Rattle.std.specs.Prelude.{sum, nat_eq, slice_get}
+use Rattle.std.proofs.Common.{◌≡◌, ◌<◌, ℕ, zero, suc, Bool, true, false, List, [], ◌∷◌, length, sym, ◌∙◌, ap, subst, refl, arith, inl, inr, ◌⊎◌}
+use Rattle.std.specs.Prelude.{sum, nat_eq}
 use Rattle.std.specs.List.{Contains, AllPairs}
-use Rattle.std.specs.Ordering.{nat_cmp, ordering_then, on, then_cmp}
 use Rattle.std.specs.Cmp.{IsTotalOrder}
-use Rattle.std.specs.Cmp.Lexicographic.{slice_cmp}
 use Rattle.std.specs.declared.cmp.Ordering.{Ordering}
-use Rattle.std.specs.declared.cmp.Ordering.TheVariants.{Less, Equal, Greater}
+use Rattle.std.specs.declared.cmp.Ordering.TheVariants.{Less}
 use Rattle.std.proofs.lemmas.Cmp.{nat_cmp_total, nat_list_cmp_total, on_total, then_total, tied_itself}
-use Rattle.std.proofs.lemmas.Bool.{cases_lt, eqb-true, eq-eqb}
-use Rattle.dai_model.specs.Formula.{Formula}
-use Rattle.dai_model.specs.Protocol.{Protocol, Invariant}
+use Rattle.std.proofs.lemmas.Bool.{eqb-true, eq-eqb}
+use Rattle.dai_model.specs.Protocol.{Protocol}
 use Rattle.dai_model.specs.Clause.{Clause}
 use Rattle.dai_model.specs.Template.{Bounds}
-use Rattle.dai_model.specs.Subsumption.{print_order, compare_literals}
+use Rattle.dai_model.specs.Subsumption.{print_order}
 use Rattle.dai_model.specs.Classes.{Class}
-use Rattle.dai_model.specs.Answer.{IsMinimal, IsAnswer, IsEntailed, AreMissing}
+use Rattle.dai_model.specs.Answer.{IsAnswer, AreMissing}
 use Rattle.dai_model.specs.Report.{IsReport, report_of}
 
 -- an order that no two members have both ways

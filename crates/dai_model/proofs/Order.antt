@@ -55,11 +55,11 @@ filter_passes p (x ∷ xs) = passed (p x) refl (filter_passes p xs)
     passed true here rest = (here, rest)
     passed false here rest = rest
 
-Rising-append : {X : Type 0} (R : X → X → Type 0) (xs ys : List X) → Rising R xs → Rising R ys → Each (λ x. Each (R x) ys) xs → Rising R (xs ++ ys)
+pub Rising-append : {X : Type 0} (R : X → X → Type 0) (xs ys : List X) → Rising R xs → Rising R ys → Each (λ x. Each (R x) ys) xs → Rising R (xs ++ ys)
 Rising-append R [] ys h k cross = k
 Rising-append R (x ∷ xs) ys h k cross = (Each-append (R x) xs ys h.0 cross.0, Rising-append R xs ys h.1 k cross.1)
 
-Rising-map : {X Y : Type 0} (R : X → X → Type 0) (S : Y → Y → Type 0) (f : X → Y) (xs : List X) → ((x y : X) → R x y → S (f x) (f y)) → Rising R xs → Rising S (map f xs)
+pub Rising-map : {X Y : Type 0} (R : X → X → Type 0) (S : Y → Y → Type 0) (f : X → Y) (xs : List X) → ((x y : X) → R x y → S (f x) (f y)) → Rising R xs → Rising S (map f xs)
 Rising-map R S f [] step h = tt
 Rising-map R S f (x ∷ xs) step h = (Each-map (R x) (S (f x)) f xs (step x) h.0, Rising-map R S f xs step h.1)
 
@@ -80,7 +80,7 @@ Each-place P [] k d below h = absurd (omega arith)
 Each-place P (x ∷ xs) zero d below h = h.0
 Each-place P (x ∷ xs) (suc k) d below h = Each-place P xs k d (omega arith) h.1
 
-Rising-at : {X : Type 0} (R : X → X → Type 0) (xs : List X) (i j : ℕ) (d : X) → i < j → j < length xs → Rising R xs → R (get_or xs i d) (get_or xs j d)
+pub Rising-at : {X : Type 0} (R : X → X → Type 0) (xs : List X) (i j : ℕ) (d : X) → i < j → j < length xs → Rising R xs → R (get_or xs i d) (get_or xs j d)
 Rising-at R [] i j d before below h = absurd (omega arith)
 Rising-at R (x ∷ xs) zero zero d before below h = absurd (omega arith)
 Rising-at R (x ∷ xs) zero (suc j) d before below h = Each-place (R x) xs j d (omega arith) h.0
@@ -95,7 +95,7 @@ less_by m n Greater h k = absurd (let e : n < m = h in omega arith)
 pub less_from : (m n : ℕ) → m < n → nat_cmp m n ≡ Less
 less_from m n h = less_by m n (nat_cmp m n) (ranked m n (nat_cmp m n) refl) h
 
-numbers_under : (n m : ℕ) → n ≤ m → Each (λ k. k < m) (numbers_below n)
+pub numbers_under : (n m : ℕ) → n ≤ m → Each (λ k. k < m) (numbers_below n)
 numbers_under zero m h = tt
 numbers_under (suc n) m h = Each-append (λ k. k < m) (numbers_below n) (n ∷ []) (numbers_under n m (omega arith)) (omega arith, tt)
 

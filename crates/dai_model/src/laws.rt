@@ -10,7 +10,8 @@ ghost use Rattle.dai_model.specs.Reachable.{IsReachable};
 ghost use Rattle.dai_model.specs.Clause.{Clause, Meets};
 ghost use Rattle.dai_model.specs.Template.{Bounds, IsTemplate};
 ghost use Rattle.dai_model.specs.Shapes.{shapes_within, compare_shapes};
-ghost use Rattle.dai_model.specs.Subsumption.{Subsumes};
+ghost use Rattle.dai_model.specs.Subsumption.{Subsumes, IsRenaming, IsCanonical};
+ghost use Rattle.dai_model.specs.Weakening.{rank_of, IsCovered};
 ghost use Rattle.dai_model.specs.Classes.{Class, all_sizes, up_to, Belongs};
 ghost use Rattle.dai_model.specs.Inductive.{IsInductive, IsInGreatest, LieInOne};
 ghost use Rattle.dai_model.specs.Answer.{IsAnswer};
@@ -76,4 +77,26 @@ pub fn shapes_stand_in_print_order()
 /// Every way to give each type a number of variables up to its bound is one of the shapes.
 pub fn every_shape_is_listed()
     ensures { (bounds counts : List ℕ) → length counts ≡ length bounds → ((sort : ℕ) → slice_index counts sort ≤ slice_index bounds sort) → Contains (shapes_within bounds) counts }
+{}
+
+/// A clause below another one has no more variables and literals together.
+pub fn below_has_no_greater_rank()
+    ensures { (P : Protocol) (B : Bounds) (c d : Clause) → IsTemplate P B c → IsTemplate P B d → Subsumes P c d → rank_of c ≤ rank_of d }
+{}
+
+/// A clause below another one of no greater rank is a renaming of it: the other is below it too, and has the same
+/// shape and as many literals.
+pub fn below_of_the_same_rank_is_a_renaming()
+    ensures below { (P : Protocol) (B : Bounds) (c d : Clause) → IsTemplate P B c → IsTemplate P B d → Subsumes P c d → rank_of d ≤ rank_of c → Subsumes P d c }
+    ensures renaming { (P : Protocol) (B : Bounds) (c d : Clause) → IsTemplate P B c → IsTemplate P B d → Subsumes P c d → rank_of d ≤ rank_of c → IsRenaming P c d }
+{}
+
+/// Two canonical clauses that are renamings of each other are one.
+pub fn canonical_renamings_are_equal()
+    ensures { (P : Protocol) (B : Bounds) (c d : Clause) → IsTemplate P B c → IsTemplate P B d → IsRenaming P c d → IsCanonical P B c → IsCanonical P B d → c ≡ d }
+{}
+
+/// Between a template and another one above it, of greater rank, lies an immediate weakening of the first.
+pub fn weakenings_cover()
+    ensures { (P : Protocol) (B : Bounds) (c d : Clause) → IsTemplate P B c → IsTemplate P B d → Subsumes P c d → rank_of c < rank_of d → IsCovered P B c d }
 {}

@@ -1,6 +1,6 @@
 -- The literals under new numbers are the image of the literals, and the only one.
-use Rattle.std.proofs.Common.{◌≡◌, ◌≢◌, ◌<◌, ◌≤◌, ◌+◌, ◌*◌, ◌/◌, ◌%◌, ℕ, zero, suc, Bool, true, false, List, [], ◌∷◌, get_or, length, map, sym, ◌∙◌, ap, subst, refl, arith, inl, inr, ◌⊎◌}
-use Rattle.std.specs.Prelude.{nat_eq, slice_index}
+use Rattle.std.proofs.Common.{◌≡◌, ◌<◌, ◌+◌, ◌*◌, ◌/◌, ◌%◌, ℕ, zero, suc, Bool, true, false, List, [], ◌∷◌, get_or, length, map, sym, ◌∙◌, ap, subst, refl, arith, inl}
+use Rattle.std.specs.Prelude.{nat_eq}
 use Rattle.std.specs.List.{All, Contains}
 use Rattle.std.proofs.lemmas.List.{get_or-map, length-map, get_or_default}
 use Rattle.dai_model.specs.Protocol.{Protocol}
@@ -9,7 +9,7 @@ use Rattle.dai_model.specs.Subsumption.{image_of_variable, image_of_atom, image_
 use Rattle.dai_model.proofs.Below.{Each, IsVariableOf, IsAtomOf, atoms_inside}
 use Rattle.dai_model.proofs.Order.{Rising}
 use Rattle.dai_template.specs.Meeting.{element_in}
-use Rattle.dai_template.specs.Renamings.{place_of_atom, renamed_variable, renamed_atom, renamed_literal, renamed_literals, put_all_in_order, IsRenamed, AreLiterals, IsImage}
+use Rattle.dai_template.specs.Renamings.{place_of_atom, renamed_variable, renamed_atom, renamed_literal, renamed_literals, IsRenamed, AreLiterals, IsImage}
 use Rattle.dai_template.proofs.Within.{Among, among_map, contained, among_at}
 use Rattle.dai_template.proofs.AtomPlaces.{placed}
 use Rattle.dai_template.proofs.Renamed.{at_place, renamed_listed, same_atom}

@@ -1,11 +1,7 @@
 -- A search that keeps the order of further types: those of which the literals have no variable.
-use Rattle.std.proofs.Common.{◌≡◌, ◌≢◌, ◌<◌, ◌≤◌, ◌+◌, ◌-◌, ◌*◌, ◌/◌, ◌%◌, ℕ, zero, suc, Bool, true, false, List, [], ◌∷◌, length, get_or, map, Some, None, sym, ap, ◌∙◌, subst, refl, arith, inl, inr, ◌⊎◌}
+use Rattle.std.proofs.Common.{◌≡◌, ◌<◌, ◌≤◌, ◌+◌, ◌-◌, ◌*◌, ◌/◌, ◌%◌, ℕ, zero, suc, Bool, true, false, List, [], ◌∷◌, length, get_or, map, Some, sym, ap, ◌∙◌, subst, refl, arith}
 use Rattle.std.specs.Prelude.{slice_get, slice_index, if◌then◌else◌}
 use Rattle.std.specs.List.{All, Contains}
-use Rattle.std.specs.Ordering.{nat_cmp}
-use Rattle.std.specs.Cmp.Lexicographic.{slice_cmp}
-use Rattle.std.specs.declared.cmp.Ordering.TheVariants.{Greater}
-use Rattle.std.proofs.lemmas.Bool.{cases_lt}
 use Rattle.std.proofs.lemmas.List.{get_or-map, length-map, get_or_default}
 use Rattle.dai_model.specs.Protocol.{Protocol, Sort}
 use Rattle.dai_model.specs.Placement.{Apart, IsPlacement, of_sort, ArePlacements}
@@ -14,7 +10,6 @@ use Rattle.dai_model.specs.Subsumption.{image_of_variable, image_of_atom, image_
 use Rattle.dai_model.proofs.Below.{Each, IsVariableOf, IsAtomOf, atoms_inside}
 use Rattle.dai_model.proofs.Folds.{numbers_below-length, numbers_below-at}
 use Rattle.dai_model.proofs.Typed.{slice_get-length}
-use Rattle.dai_template.specs.Meeting.{Agree, Before}
 use Rattle.dai_template.specs.Renamings.{IsShapeOf, AreLiterals, IsImage, IsSmallerImage, IsLeastFrom, IsSame, AreAsOrdered, AreTypesBelow, IsTyped, AreKept}
 use Rattle.dai_template.proofs.Asked.{none_before}
 use Rattle.dai_template.proofs.MetFrom.{count_inside}

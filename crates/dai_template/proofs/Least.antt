@@ -1,15 +1,12 @@
 -- From the search to the canonical clause.
-use Rattle.std.proofs.Common.{◌≡◌, ◌≢◌, ◌<◌, ◌≤◌, ◌*◌, ◌^◌, ℕ, suc, Bool, List, [], ◌∷◌, length, get_or, map, sym, ap, ◌∙◌, subst, refl, arith, inl, inr, ◌⊎◌}
+use Rattle.std.proofs.Common.{◌≡◌, ◌<◌, ℕ, Bool, List, length, get_or, map, sym, ap, ◌∙◌, subst, refl, arith}
 use Rattle.std.specs.Prelude.{slice_index}
-use Rattle.std.specs.List.{All, Contains}
-use Rattle.std.specs.Ordering.{nat_cmp}
-use Rattle.std.specs.Cmp.Lexicographic.{slice_cmp}
-use Rattle.std.specs.declared.cmp.Ordering.TheVariants.{Less, Greater}
+use Rattle.std.specs.List.{Contains}
 use Rattle.std.proofs.lemmas.Bool.{cases_lt}
 use Rattle.std.proofs.lemmas.List.{get_or-map, length-map, get_or_default}
 use Rattle.dai_model.specs.Protocol.{Protocol, Sort}
 use Rattle.dai_model.specs.Placement.{ArePlacements}
-use Rattle.dai_model.specs.Clause.{Clause, Literal, atoms_of, literal_among, literals_of}
+use Rattle.dai_model.specs.Clause.{Clause, Literal, atoms_of, literal_among}
 use Rattle.dai_model.specs.Template.{Bounds, IsTemplate}
 use Rattle.dai_model.specs.Subsumption.{image_of, IsRenaming, IsCanonical}
 use Rattle.dai_model.proofs.Below.{Each, below-trans, below-refl}
@@ -17,7 +14,6 @@ use Rattle.dai_template.specs.declared.clause.Clause.{Clause as Kept}
 use Rattle.dai_template.specs.declared.clause.Shape.{Shape}
 use Rattle.dai_template.specs.declared.space.Space.{Space}
 use Rattle.dai_template.specs.Atoms.{atom_of}
-use Rattle.dai_template.specs.Meeting.{Before}
 use Rattle.dai_template.specs.Spaces.{IsClauseOf, clause_of}
 use Rattle.dai_template.specs.Renamings.{IsShapeOf, AreLiterals, IsImage, IsSmallerImage, IsLeastFrom, IsSmallerRenaming, IsCanonicalForm}
 use Rattle.dai_template.proofs.Asked.{none_before}

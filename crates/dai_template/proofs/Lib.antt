@@ -27,6 +27,7 @@ pub mod Sought
 pub mod LiteralOrder
 pub mod Least
 pub mod Parts
+pub mod AllShapes
 pub mod SpaceShapes
 pub mod Freed
 pub mod Kept

@@ -1,6 +1,6 @@
 -- The example of the tests is a protocol in the profile, its states fit, and clauses of one or two literals are of
 -- its spaces.
-use Rattle.std.proofs.Common.{◌≡◌, ℕ, zero, suc, ◌<◌, ◌≤◌, ◌+◌, ◌*◌, ◌/◌, Bool, List, [], ◌∷◌, ◌++◌, length, get_or, Some, slice_get, Vec, map, ap, sym, ◌∙◌, refl, subst, arith}
+use Rattle.std.proofs.Common.{◌≡◌, ℕ, zero, suc, ◌<◌, ◌≤◌, ◌+◌, ◌/◌, Bool, List, [], ◌∷◌, ◌++◌, length, get_or, Some, slice_get, Vec, map, ap, sym, ◌∙◌, refl, subst, arith}
 use Rattle.std.specs.declared.alloc.Global.{Global}
 use Rattle.std.specs.List.{All, IsDistinct}
 use Rattle.std.proofs.lemmas.Grind.{merely}
@@ -18,7 +18,8 @@ use Rattle.dai_template.specs.declared.space.Space.{Space}
 use Rattle.dai_template.specs.Links.{links, IsLinked}
 use Rattle.dai_template.specs.Spaces.{IsSpaceOf, IsClauseOf, clause_of}
 use Rattle.dai_template.specs.Lists.{IsBegunWith}
-use Rattle.dai_template.proofs.Parts.{begun_more, empty_begun}
+use Rattle.dai_template.proofs.Parts.{begun_more}
+use Rattle.dai_template.proofs.AllShapes.{empty_begun}
 use Rattle.dai_template.proofs.SpaceShapes.{shape_atoms, empty_template}
 
 all_none : {A : Type 0} (P : A → Type 0) → All P []

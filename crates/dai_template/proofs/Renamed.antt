@@ -1,20 +1,19 @@
 -- Atoms and literals under new numbers.
-use Rattle.std.proofs.Common.{◌≡◌, ◌≢◌, ◌<◌, ◌≤◌, ◌+◌, ◌*◌, ◌/◌, ◌%◌, ◌^◌, ℕ, zero, suc, Bool, true, false, List, [], ◌∷◌, get_or, length, map, take, Some, sym, ◌∙◌, ap, subst, refl, arith, inl, inr, ◌⊎◌}
+use Rattle.std.proofs.Common.{◌≡◌, ◌≢◌, ◌<◌, ◌≤◌, ◌+◌, ◌*◌, ◌/◌, ◌%◌, ℕ, zero, suc, Bool, true, false, List, [], ◌∷◌, get_or, length, map, take, Some, sym, ◌∙◌, ap, subst, refl, arith, inl, inr, ◌⊎◌}
 use Rattle.std.specs.Prelude.{sum_by, slice_get, slice_index}
 use Rattle.std.specs.List.{Contains}
 use Rattle.std.proofs.lemmas.Bool.{cases_lt}
 use Rattle.std.proofs.lemmas.List.{get_or_default}
 use Rattle.std.proofs.lemmas.List.Sums.{sum_by-cons}
-use Rattle.dai_model.specs.Protocol.{Protocol, Relation, Individual, Sort}
+use Rattle.dai_model.specs.Protocol.{Protocol, Relation}
 use Rattle.dai_model.specs.Placement.{Apart}
 use Rattle.dai_model.specs.Clause.{Variable, Atom, tuple, is_individual, atoms_of, no_atom}
-use Rattle.dai_model.specs.Limits.{tuples_at, product}
-use Rattle.dai_model.specs.Structure.{is_tuple}
+use Rattle.dai_model.specs.Limits.{tuples_at}
 use Rattle.dai_model.proofs.Below.{Each, IsVariableOf, IsAtomOf, atoms_inside}
 use Rattle.dai_model.proofs.Folds.{map-map}
 use Rattle.dai_model.proofs.Tuples.{atoms_of-length}
 use Rattle.dai_logic.specs.Counts.{tuple_place, tuple_count}
-use Rattle.dai_template.specs.Meeting.{element_in, sorts_of, IsNamed, IsBegun}
+use Rattle.dai_template.specs.Meeting.{element_in, sorts_of, IsNamed}
 use Rattle.dai_template.specs.Renamings.{place_of_atom, renamed_variable, renamed_atom, renamed_literal, IsPlaceable, IsShapeOf, IsRenamed}
 use Rattle.dai_template.proofs.Ways.{All-from_Each}
 use Rattle.dai_template.proofs.Named.{atoms_named}

@@ -1,13 +1,12 @@
 -- The search for a smaller renaming, variable by variable.
-use Rattle.std.proofs.Common.{◌≡◌, ◌≢◌, ◌<◌, ℕ, Bool, false, refl, List, Option, Some, None, length, get_or, map, sym, ap, ◌∙◌, subst, arith, inl}
-use Rattle.std.specs.Prelude.{slice_index, IfSome, is_some}
+use Rattle.std.proofs.Common.{◌≡◌, ◌≢◌, ℕ, Bool, false, refl, List, Option, Some, None, length, sym, ap, ◌∙◌, subst, arith, inl}
+use Rattle.std.specs.Prelude.{IfSome, is_some}
 use Rattle.std.specs.Ordering.{nat_cmp}
 use Rattle.std.specs.Cmp.Lexicographic.{slice_cmp}
-use Rattle.std.specs.declared.cmp.Ordering.{Ordering}
 use Rattle.std.specs.declared.cmp.Ordering.TheVariants.{Less, Greater}
 use Rattle.dai_model.specs.Protocol.{Protocol}
 use Rattle.dai_model.specs.Clause.{Atom}
-use Rattle.dai_template.specs.Meeting.{Agree, IsBegun}
+use Rattle.dai_template.specs.Meeting.{IsBegun}
 use Rattle.dai_template.specs.Renamings.{renamed_literals, IsShapeOf, IsRenamed, AreLiterals, IsImage, IsSmallerImage, IsLeastFrom}
 use Rattle.dai_template.proofs.MetFrom.{count_inside, cut, cut_at, cut_placed}
 use Rattle.dai_template.proofs.Choices.{IsSearched, begun_end}

@@ -1,5 +1,5 @@
 -- The shapes of a space: they lie within the bounds, and are few.
-use Rattle.std.proofs.Common.{◌≡◌, ◌<◌, ◌≤◌, ◌+◌, ◌*◌, ◌^◌, ℕ, zero, suc, Bool, true, false, cond, List, [], ◌∷◌, ◌++◌, length, get_or, map, sum, sym, ap, ◌∙◌, subst, refl, arith, inl, inr, ◌⊎◌}
+use Rattle.std.proofs.Common.{◌≡◌, ◌<◌, ◌≤◌, ◌+◌, ◌*◌, ◌^◌, ℕ, zero, suc, Bool, true, false, cond, List, [], ◌∷◌, ◌++◌, length, get_or, map, sum, sym, ap, ◌∙◌, subst, arith}
 use Rattle.std.specs.Prelude.{filter, slice_index, nat_eq, sum_by}
 use Rattle.std.specs.List.{flat_map}
 use Rattle.std.proofs.lemmas.Bool.{cases_lt}
@@ -10,7 +10,7 @@ use Rattle.std.proofs.Math.Nat.{mul-le-mul}
 use Rattle.dai_model.specs.Protocol.{Protocol, Relation, Individual}
 use Rattle.dai_model.specs.Limits.{product, tuples_at}
 use Rattle.dai_model.proofs.Tuples.{atoms_of-length}
-use Rattle.dai_model.specs.Clause.{Clause, numbers_below, atoms_of}
+use Rattle.dai_model.specs.Clause.{numbers_below, atoms_of}
 use Rattle.dai_model.specs.Template.{Bounds, IsTemplate}
 use Rattle.dai_model.specs.Shapes.{counts_within, with_sum, shapes_within}
 use Rattle.dai_model.proofs.Below.{Each}

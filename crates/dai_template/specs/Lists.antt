@@ -1,5 +1,5 @@
 -- Lists of the canonical clauses of a space, in print order.
-use Rattle.std.specs.Prelude.{◌≡◌, ℕ, ◌+◌, ◌*◌, ◌/◌, ◌<◌, ◌≤◌, List, [], ◌∷◌, ◌++◌, length, map, slice_index_or}
+use Rattle.std.specs.Prelude.{◌≡◌, ℕ, ◌+◌, ◌/◌, ◌<◌, ◌≤◌, List, [], ◌∷◌, ◌++◌, length, map, slice_index_or}
 use Rattle.std.specs.List.{All, Contains}
 use Rattle.std.specs.declared.cmp.Ordering.TheVariants.{Less}
 use Rattle.dai_model.specs.Protocol.{Protocol}
@@ -12,7 +12,7 @@ use Rattle.dai_model.proofs.Order.{Rising}
 use Rattle.dai_template.specs.declared.clause.Clause.{Clause}
 use Rattle.dai_template.specs.declared.space.Space.{Space}
 use Rattle.dai_template.specs.Atoms.{counts_of}
-use Rattle.dai_template.specs.Spaces.{IsSpaceOf, IsClauseOf, clause_of}
+use Rattle.dai_template.specs.Spaces.{IsClauseOf, clause_of}
 
 abbrev pub clauses_of : Space → List Clause → List Model.Clause
 clauses_of space clauses = map (clause_of space) clauses

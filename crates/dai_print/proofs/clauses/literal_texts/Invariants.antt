@@ -1,7 +1,5 @@
 -- the texts of the literals so far
-use Rattle.std.proofs.Common.{◌≡◌, ◌<◌, length, map, take}
-use Rattle.std.specs.Prelude.{◌/◌}
-use Rattle.std.specs.List.{All}
+use Rattle.std.proofs.Common.{◌≡◌, map, take}
 use Rattle.dai_model.specs.Clause.{literal_among}
 use Rattle.dai_model.specs.Report.{literal_text}
 use Rattle.dai_logic.specs.Protocols.{protocol_of}

@@ -1,10 +1,9 @@
 -- the lines so far, and the next number
 use Rattle.std.proofs.Common.{◌≡◌, ◌+◌, map, take}
-use Rattle.std.specs.List.{All, flat_map, enumerate_from}
-use Rattle.dai_model.specs.Template.{Bounds}
+use Rattle.std.specs.List.{flat_map, enumerate_from}
 use Rattle.dai_model.specs.Report.{clause_line}
 use Rattle.dai_logic.specs.Protocols.{protocol_of}
-use Rattle.dai_template.specs.Spaces.{clause_of, IsClauseOf}
+use Rattle.dai_template.specs.Spaces.{clause_of}
 use Rattle.dai_print.proofs.report.report_text.Given as goal
 
 abbrev pub invariant-loop-clause : goal.invariant-loop-clause

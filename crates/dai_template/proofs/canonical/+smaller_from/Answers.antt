@@ -1,13 +1,11 @@
-use Rattle.std.proofs.Common.{◌≡◌, ◌≢◌, ◌<◌, ◌+◌, ◌*◌, ℕ, List, true, false, length, get_or, set, map, Some, None, sym, ap, ◌∙◌, refl, subst, arith}
-use Rattle.std.specs.Prelude.{IfSome}
+use Rattle.std.proofs.Common.{◌≡◌, ◌≢◌, ◌<◌, ◌+◌, ◌*◌, ℕ, List, true, false, length, get_or, set, map, sym, ◌∙◌, refl, subst, arith}
 use Rattle.std.specs.Ordering.{nat_cmp}
 use Rattle.std.specs.Cmp.Lexicographic.{slice_cmp}
 use Rattle.std.specs.declared.cmp.Ordering.TheVariants.{Greater}
-use Rattle.dai_model.specs.Protocol.{Protocol}
 use Rattle.dai_template.specs.Atoms.{atom_of}
 use Rattle.dai_template.specs.Meeting.{IsBegun, MayStand}
-use Rattle.dai_template.specs.Renamings.{IsShapeOf, AreLiterals, IsImage, IsSmallerImage, IsLeastFrom}
-use Rattle.dai_template.proofs.Choices.{choice_begun, choice_exact, choice_only, room_left, element_below, all_seen, next_element}
+use Rattle.dai_template.specs.Renamings.{IsImage, IsLeastFrom}
+use Rattle.dai_template.proofs.Choices.{choice_begun, choice_only, room_left, element_below, all_seen, next_element}
 use Rattle.dai_template.proofs.Sought.{searched_shape, all_renamed, end_least, end_smaller, if_some, some_weaker, none_from}
 use Rattle.dai_template.proofs.canonical.+smaller_from.Goals as goal
 use Rattle.dai_template.proofs.canonical.+smaller_from.Goals.{then-may_stand+else-is_some, else-may_stand}

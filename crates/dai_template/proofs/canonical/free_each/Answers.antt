@@ -1,4 +1,4 @@
-use Rattle.std.proofs.Common.{◌≡◌, ◌<◌, ◌+◌, length, get_or, set, false, sym, ap, ◌∙◌, subst, arith}
+use Rattle.std.proofs.Common.{◌<◌, length, get_or, set, false, ◌∙◌, arith}
 use Rattle.std.proofs.lemmas.List.{length-set}
 use Rattle.dai_template.specs.Renamings.{IsSame}
 use Rattle.dai_template.proofs.Freed.{freed_here, stays_same, keeps_on, sort_below, all_freed, one_more}

@@ -1,5 +1,5 @@
 -- the types of the variables so far were let go
-use Rattle.std.proofs.Common.{◌≡◌, ◌<◌, ℕ, true, false, length, get_or, map}
+use Rattle.std.proofs.Common.{◌≡◌, ◌<◌, ℕ, true, false, length, get_or}
 use Rattle.dai_template.specs.Renamings.{IsSame}
 use Rattle.dai_template.proofs.canonical.free_each.Given as goal
 

@@ -1,4 +1,4 @@
-use Rattle.std.proofs.Common.{◌≡◌, ◌<◌, ◌+◌, ◌/◌, length, get_or, map, sym, ap, ◌∙◌, subst, arith}
+use Rattle.std.proofs.Common.{◌/◌, length, get_or, map, sym, ◌∙◌, subst}
 use Rattle.dai_model.specs.Clause.{no_atom}
 use Rattle.dai_template.specs.Atoms.{atom_of}
 use Rattle.dai_template.specs.Renamings.{AreAsOrdered, AreTypesBelow}

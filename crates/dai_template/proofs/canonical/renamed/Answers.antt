@@ -1,7 +1,4 @@
-use Rattle.std.proofs.Common.{◌≡◌, ◌<◌, ◌≤◌, ◌+◌, ◌*◌, ◌/◌, ◌++◌, ℕ, List, length, get_or, map, sym, ap, ◌∙◌, subst, refl, arith}
-use Rattle.dai_model.specs.Protocol.{Protocol}
-use Rattle.dai_model.specs.Clause as Model
-use Rattle.dai_model.specs.Clause.{tuple, is_individual, no_atom}
+use Rattle.std.proofs.Common.{◌≡◌, ◌+◌, ◌*◌, ℕ, List, get_or, map, sym, ap, ◌∙◌, subst, arith}
 use Rattle.dai_logic.specs.Tables.{tuple_place}
 use Rattle.dai_template.specs.Atoms.{variable_of, atom_of}
 use Rattle.dai_template.specs.Meeting.{element_in, sorts_of}

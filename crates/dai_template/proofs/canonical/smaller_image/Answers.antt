@@ -5,7 +5,6 @@ use Rattle.std.proofs.lemmas.Cmp.{nat_list_cmp_total}
 use Rattle.std.specs.declared.cmp.Ordering.{Ordering}
 use Rattle.std.specs.declared.cmp.Ordering.TheVariants.{Less}
 use Rattle.dai_template.specs.Renamings.{renamed_literals}
-use Rattle.dai_template.proofs.Images.{array_image}
 use Rattle.dai_template.proofs.canonical.smaller_image.Goals as goal
 
 pub returns-else-eq-clause-none : goal.returns-else-eq-clause-none

@@ -1,4 +1,4 @@
-use Rattle.std.proofs.Common.{◌<◌, ◌/◌, length, get_or, ap, sym, ◌∙◌, refl, arith}
+use Rattle.std.proofs.Common.{get_or, ap, sym, ◌∙◌, arith}
 use Rattle.dai_template.specs.Links.{links}
 use Rattle.dai_template.proofs.LinksFit.{two_literals}
 use Rattle.dai_template.proofs.tests.clause.Goals as goal

@@ -1,4 +1,4 @@
-use Rattle.std.proofs.Common.{◌++◌, ◌∷◌, [], subst, sym, refl, ap, ◌∙◌, List, Vec}
+use Rattle.std.proofs.Common.{subst, sym, ap, ◌∙◌, List, Vec}
 use Rattle.std.specs.declared.alloc.Global.{Global}
 use Rattle.dai_template.specs.declared.clause.Clause.{Clause}
 use Rattle.dai_order.specs.Copies.{AreCopiesAmong}

@@ -1,4 +1,4 @@
-use Rattle.std.proofs.Common.{arith, ◌∙◌}
+use Rattle.std.proofs.Common.{arith}
 use Rattle.dai_template.proofs.Least.{canonical_further, canonical_copy, smaller_written}
 use Rattle.dai_template.proofs.space.Space.+canonical.Goals as goal
 

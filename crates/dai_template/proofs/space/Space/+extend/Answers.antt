@@ -1,10 +1,8 @@
-use Rattle.std.proofs.Common.{◌≡◌, ◌<◌, ◌≤◌, ◌+◌, ◌*◌, ◌/◌, ◌-◌, ℕ, length, sym, ap, ◌∙◌, subst, refl, arith}
-use Rattle.dai_model.specs.Protocol.{Protocol}
-use Rattle.dai_model.specs.Template.{Bounds}
+use Rattle.std.proofs.Common.{◌≡◌, ◌<◌, ◌+◌, ◌*◌, ◌-◌, length, refl, arith}
 use Rattle.dai_model.specs.Clause.{atoms_of}
 use Rattle.dai_template.specs.Spaces.{clause_of}
-use Rattle.dai_template.specs.Lists.{IsAdded, GoesOn, GoesOnBelow, IsBegunWith}
-use Rattle.dai_template.proofs.Parts.{added_as, added_none, nothing_below, begun_more, atom_more, goes_on, goes_on_below, goes_nowhere, stays, on_ok}
+use Rattle.dai_template.specs.Lists.{GoesOn, GoesOnBelow}
+use Rattle.dai_template.proofs.Parts.{added_as, begun_more, atom_more, goes_on, goes_on_below, goes_nowhere, stays, on_ok}
 use Rattle.dai_template.proofs.space.Space.+extend.Goals as goal
 
 pub returns-then-left-eq0 : goal.returns-then-left-eq0

@@ -1,7 +1,7 @@
-use Rattle.std.proofs.Common.{◌≡◌, subst, sym, ap, ◌∙◌, arith}
+use Rattle.std.proofs.Common.{◌≡◌, subst}
 use Rattle.dai_model.specs.Subsumption.{IsCanonical}
 use Rattle.dai_template.specs.Spaces.{clause_of}
-use Rattle.dai_template.proofs.Parts.{added_none, added_one, not_canonical, not_none}
+use Rattle.dai_template.proofs.Parts.{added_none, not_none}
 use Rattle.dai_template.proofs.Sought.{some_weaker}
 use Rattle.dai_template.proofs.space.Space.add_canonical.Goals as goal
 

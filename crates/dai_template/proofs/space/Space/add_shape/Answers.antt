@@ -1,6 +1,5 @@
-use Rattle.std.proofs.Common.{◌≡◌, ◌≤◌, ◌<◌, length, sym, ap, ◌∙◌, subst, arith}
-use Rattle.dai_template.specs.Lists.{IsAdded, HasFewLiterals}
-use Rattle.dai_template.proofs.Parts.{empty_begun, literals_more}
+use Rattle.std.proofs.Common.{◌<◌, length, arith}
+use Rattle.dai_template.proofs.AllShapes.{empty_begun, literals_more}
 use Rattle.dai_template.proofs.SpaceShapes.{empty_template}
 use Rattle.dai_template.proofs.space.Space.add_shape.Goals as goal
 

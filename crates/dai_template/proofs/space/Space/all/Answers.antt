@@ -1,5 +1,5 @@
-use Rattle.std.proofs.Common.{◌≡◌, ◌≤◌, ◌<◌, length, sym, ap, ◌∙◌, arith}
-use Rattle.dai_template.proofs.Parts.{shape_more, list_of_all}
+use Rattle.std.proofs.Common.{arith}
+use Rattle.dai_template.proofs.AllShapes.{shape_more, list_of_all}
 use Rattle.dai_template.proofs.SpaceShapes.{few_shapes}
 use Rattle.dai_template.proofs.space.Space.all.Goals as goal
 

@@ -1,4 +1,4 @@
-use Rattle.std.proofs.Common.{◌∙◌, arith}
+use Rattle.std.proofs.Common.{arith}
 use Rattle.dai_template.proofs.SpaceShapes.{shape_atoms}
 use Rattle.dai_template.proofs.space.Space.atom_count.Goals as goal
 

@@ -1,4 +1,4 @@
-use Rattle.std.proofs.Common.{ℕ, map, refl, arith}
+use Rattle.std.proofs.Common.{map, refl, arith}
 use Rattle.dai_template.specs.Atoms.{atom_of}
 use Rattle.dai_template.proofs.Asked.{begun_none, zeros}
 use Rattle.dai_template.proofs.Kept.{with_orders, kept_shape, kept_literals, kept_smaller, kept_least, typed}
