@@ -18,12 +18,10 @@ use Rattle.dai_rules.specs.Faults.{ComesFirst, IsFirstSortFault, IsFaultless}
 use Rattle.dai_rules.specs.Sites.{Site}
 use Rattle.dai_rules.specs.Rules.{Breaks, breaks_21, breaks_22, breaks_23, breaks_24, two_types, breaks_25, breaks_26, unordered, breaks_27, breaks_28, breaks_29, breaks_30, breaks_31, breaks_42}
 use Rattle.dai_base.specs.Fault.{IsInTable}
-use Rattle.std.specs.Result.{IfErr, IsErrAnd}
-use Rattle.dai_sorts.specs.Files.{IsFlagFile}
-use Rattle.dai_front.specs.declared.reader.Stop.{Stop}
-use Rattle.dai_front.specs.declared.reader.Stop.TheVariants.{At, Spent}
-use Rattle.dai_front.specs.Files.{number_of, offset_of, IsProtocolIn, IsRefusedAt, bad_byte, bad_token, bad_sorts, no_flags, IsFaultOf}
-use Rattle.dai_front.specs.Refusals.{byte_stop, token_stop, sort_stop, IsSortStop, IsStop}
+use Rattle.dai_sorts.specs.Errors.{IsTrueFault}
+use Rattle.dai_sorts.specs.Protocols.{IsProtocolOf}
+use Rattle.dai_front.specs.Files.{number_of, offset_of, IsProtocolIn, IsRefusedAt, bad_byte, bad_token, bad_sorts, IsFaultOf}
+use Rattle.dai_front.specs.Refusals.{byte_stop, token_stop, sort_stop, IsStop}
 
 abbrev pub OneReading : Type 0
 OneReading = (bytes : List ℕ) → HaveOneReading bytes
@@ -60,42 +58,29 @@ same_sort_fault ds es number at other place same h k =
     let m = subst (λ d. IsFirstSortFault d other place) (sym same) k in
     first_is_one number at other place (h.first other place m.fault) (m.first number at h.fault)
 
-accepted_bytes : OneReading → OneVerdict → OneFile → (bytes : List ℕ) (tokens : List Token) (ds : List Declaration) (P : Protocol) → IsTokens bytes tokens → IsFile bytes tokens ds → IsFaultless ds → IsFlagFile ds P → (number at : ℕ) → IsRefusedAt bytes number at → ⊥
-accepted_bytes law verdict one bytes tokens ds P h file rules flags number at (bad_byte b) = (law bytes).apart tokens at h b
-accepted_bytes law verdict one bytes tokens ds P h file rules flags number at (bad_token {tokens = others} {e} k f) =
+accepted_bytes : OneReading → OneVerdict → OneFile → (bytes : List ℕ) (tokens : List Token) (ds : List Declaration) → IsTokens bytes tokens → IsFile bytes tokens ds → IsFaultless ds → (number at : ℕ) → IsRefusedAt bytes number at → ⊥
+accepted_bytes law verdict one bytes tokens ds h file rules number at (bad_byte b) = (law bytes).apart tokens at h b
+accepted_bytes law verdict one bytes tokens ds h file rules number at (bad_token {tokens = others} {e} k f) =
     (verdict bytes tokens).apart ds e file (fault_moves bytes tokens others e (same_tokens law bytes tokens others h k) f)
-accepted_bytes law verdict one bytes tokens ds P h file rules flags number at (bad_sorts {tokens = others} {ds = es} k other f) =
+accepted_bytes law verdict one bytes tokens ds h file rules number at (bad_sorts {tokens = others} {ds = es} k other f) =
     rules number at (subst (λ d. IsFirstSortFault d number at) (sym (same_file law one bytes tokens others ds es h k file other)) f).fault
-accepted_bytes law verdict one bytes tokens ds P h file rules flags number at (no_flags {tokens = others} {ds = es} k other faultless none) =
-    none P (subst (λ d. IsFlagFile d P) (same_file law one bytes tokens others ds es h k file other) flags)
 
 -- two refusals of the same bytes
 same_refusal : OneReading → OneVerdict → OneFile → (bytes : List ℕ) (n a m b : ℕ) → IsRefusedAt bytes n a → IsRefusedAt bytes m b → (n ≡ m) × (a ≡ b)
 same_refusal law verdict one bytes n a m b (bad_byte p) (bad_byte q) = (refl, (law bytes).place a b p q)
 same_refusal law verdict one bytes n a m b (bad_byte p) (bad_token {tokens} h f) = absurd ((law bytes).apart tokens a h p)
 same_refusal law verdict one bytes n a m b (bad_byte p) (bad_sorts {tokens} h file f) = absurd ((law bytes).apart tokens a h p)
-same_refusal law verdict one bytes n a m b (bad_byte p) (no_flags {tokens} h f faultless none) = absurd ((law bytes).apart tokens a h p)
 same_refusal law verdict one bytes n a m b (bad_token {tokens} h f) (bad_byte q) = absurd ((law bytes).apart tokens b h q)
 same_refusal law verdict one bytes n a m b (bad_token {tokens} {e} h f) (bad_token {tokens = others} {e = d} k g) =
     let same = (verdict bytes tokens).fault e d f (fault_moves bytes tokens others d (same_tokens law bytes tokens others h k) g) in
     (ap number_of same, ap offset_of same)
 same_refusal law verdict one bytes n a m b (bad_token {tokens} {e} h f) (bad_sorts {tokens = others} {ds} k file g) =
     absurd ((verdict bytes tokens).apart ds e (file_moves bytes tokens others ds (same_tokens law bytes tokens others h k) file) f)
-same_refusal law verdict one bytes n a m b (bad_token {tokens} {e} h f) (no_flags {tokens = others} {ds} k file faultless none) =
-    absurd ((verdict bytes tokens).apart ds e (file_moves bytes tokens others ds (same_tokens law bytes tokens others h k) file) f)
 same_refusal law verdict one bytes n a m b (bad_sorts {tokens} h file f) (bad_byte q) = absurd ((law bytes).apart tokens b h q)
 same_refusal law verdict one bytes n a m b (bad_sorts {tokens} {ds} h file f) (bad_token {tokens = others} {e} k g) =
     absurd ((verdict bytes tokens).apart ds e file (fault_moves bytes tokens others e (same_tokens law bytes tokens others h k) g))
 same_refusal law verdict one bytes n a m b (bad_sorts {tokens} {ds} h file f) (bad_sorts {tokens = others} {ds = es} k other g) =
     same_sort_fault ds es n a m b (same_file law one bytes tokens others ds es h k file other) f g
-same_refusal law verdict one bytes n a m b (bad_sorts {tokens} {ds} h file f) (no_flags {tokens = others} {ds = es} k other faultless none) =
-    absurd (faultless n a (subst (λ d. IsFirstSortFault d n a) (same_file law one bytes tokens others ds es h k file other) f).fault)
-same_refusal law verdict one bytes n a m b (no_flags {tokens} h f faultless none) (bad_byte q) = absurd ((law bytes).apart tokens b h q)
-same_refusal law verdict one bytes n a m b (no_flags {tokens} {ds} h file faultless none) (bad_token {tokens = others} {e} k f) =
-    absurd ((verdict bytes tokens).apart ds e file (fault_moves bytes tokens others e (same_tokens law bytes tokens others h k) f))
-same_refusal law verdict one bytes n a m b (no_flags {tokens} {ds} h file faultless none) (bad_sorts {tokens = others} {ds = es} k other f) =
-    absurd (faultless m b (subst (λ d. IsFirstSortFault d m b) (sym (same_file law one bytes tokens others ds es h k file other)) f).fault)
-same_refusal law verdict one bytes n a m b (no_flags h f faultless none) (no_flags k g fine other) = (refl, refl)
 
 same_place : (before : List ℕ) (p q : Place) → IsPlaceAfter before p → IsPlaceAfter before q → p ≡ q
 same_place before p q h k = λ i. record { line = (h.line ∙ sym k.line) i; column = (h.column ∙ sym k.column) i }
@@ -138,17 +123,17 @@ pub byte_stopped : (bytes : List ℕ) (e : LexError) → IsFault bytes e → IsS
 byte_stopped bytes (Lex.Bad at) h = record { refused = bad_byte h.0; listed = refl }
 byte_stopped bytes Lex.Spent h = tt
 
-pub rule_stopped : (bytes : List ℕ) (tokens : List Token) (ds : List Declaration) (s : Stop) → IsTokens bytes tokens → IsFile bytes tokens ds → IsSortStop ds s → IsStop bytes s
-rule_stopped bytes tokens ds (At number at) h file f = record { refused = bad_sorts h file f; listed = rule_listed f.fault.site number at f.fault.breaks }
-rule_stopped bytes tokens ds Spent h file f = tt
-
-pub sort_stopped : (bytes : List ℕ) (tokens : List Token) (ds : List Declaration) (e : SortError) → IsTokens bytes tokens → IsFile bytes tokens ds → IsFaultless ds → ((e ≡ Sorts.Spent → ⊥) → (P : Protocol) → IsFlagFile ds P → ⊥) → IsStop bytes (sort_stop e)
-sort_stopped bytes tokens ds (Sorts.Bad number at) h file faultless none = record { refused = no_flags h file faultless (none (λ e. let n : ⊥ = cc in n)); listed = refl }
-sort_stopped bytes tokens ds Sorts.Spent h file faultless none = tt
-
-pub passed_on : {A : Type 0} (bytes : List ℕ) (r : Result A Stop) (s : Stop) → IsErrAnd r (λ e. e ≡ s) → IsStop bytes s → IfErr r (IsStop bytes)
-passed_on bytes (Ok v) s h k = tt
-passed_on bytes (Err e) s h k = let P : Stop → Type 0 = λ x. IsStop bytes x in subst P (sym h) k
+pub sort_stopped : (bytes : List ℕ) (tokens : List Token) (ds : List Declaration) (e : SortError) → IsTokens bytes tokens → IsFile bytes tokens ds → IsTrueFault ds e → IsStop bytes (sort_stop e)
+sort_stopped bytes tokens ds (Sorts.Bad number at) h file f = record { refused = bad_sorts h file f; listed = rule_listed f.fault.site number at f.fault.breaks }
+sort_stopped bytes tokens ds Sorts.Spent h file f = tt
 
 pub never_both : OneReading → OneVerdict → OneFile → (bytes : List ℕ) (P : Protocol) (n : ℕ) (p : Place) → IsProtocolIn bytes P → IsFaultOf bytes n p → ⊥
-never_both law verdict one bytes P n p i f = accepted_bytes law verdict one bytes i.tokens i.declarations P i.are_tokens i.is_file i.faultless i.protocol n f.offset f.refused
+never_both law verdict one bytes P n p i f = accepted_bytes law verdict one bytes i.tokens i.declarations i.are_tokens i.is_file i.faultless n f.offset f.refused
+
+abbrev pub OneProtocol : Type 0
+OneProtocol = (ds : List Declaration) (P Q : Protocol) → IsFaultless ds → IsProtocolOf ds P → IsProtocolOf ds Q → P ≡ Q
+
+pub same_protocol : OneReading → OneFile → OneProtocol → (bytes : List ℕ) (P Q : Protocol) → IsProtocolIn bytes P → IsProtocolIn bytes Q → P ≡ Q
+same_protocol law one single bytes P Q i j =
+    let same = same_file law one bytes i.tokens j.tokens i.declarations j.declarations i.are_tokens j.are_tokens i.is_file j.is_file in
+    single i.declarations P Q i.faultless i.protocol (subst (λ d. IsProtocolOf d Q) (sym same) j.protocol)

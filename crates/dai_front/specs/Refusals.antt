@@ -6,8 +6,6 @@ use Rattle.dai_lex.specs.declared.token.LexError.{LexError}
 use Rattle.dai_lex.specs.declared.token.LexError.TheVariants as Lex
 use Rattle.dai_syntax.specs.declared.error.SyntaxError.{SyntaxError}
 use Rattle.dai_syntax.specs.declared.error.SyntaxError.TheVariants as Syntax
-use Rattle.dai_syntax.specs.Tree.{Declaration}
-use Rattle.dai_rules.specs.Faults.{IsFirstSortFault}
 use Rattle.dai_sorts.specs.declared.error.SortError.{SortError}
 use Rattle.dai_sorts.specs.declared.error.SortError.TheVariants as Sorts
 use Rattle.dai_front.specs.declared.reader.Stop.{Stop}
@@ -16,7 +14,7 @@ use Rattle.dai_front.specs.declared.error.ReadError.{ReadError}
 use Rattle.dai_front.specs.declared.error.ReadError.TheVariants as Read
 use Rattle.dai_front.specs.Files.{IsRefusedAt, IsFaultOf}
 
--- the answers to errors of the tokens and of the grammar, and to a file with types
+-- the answers to errors of the tokens, of the grammar and of the rules of sorts
 abbrev pub byte_stop : LexError → Stop
 byte_stop (Lex.Bad at) = At 10 at
 byte_stop Lex.Spent = Spent
@@ -28,13 +26,8 @@ token_stop (Syntax.LeftOut at) = At 20 at
 token_stop Syntax.Spent = Spent
 
 abbrev pub sort_stop : SortError → Stop
-sort_stop (Sorts.Bad number at) = At 20 0
+sort_stop (Sorts.Bad number at) = At number at
 sort_stop Sorts.Spent = Spent
-
--- the answer to a file that breaks a rule of sorts
-abbrev pub IsSortStop : List Declaration → Stop → Type 0
-IsSortStop ds (At number at) = IsFirstSortFault ds number at
-IsSortStop ds Spent = Unit {0}
 
 -- a refusal at an offset is that of the bytes, with a number of the table
 pub record IsRefusal (bytes : List ℕ) (number at : ℕ) : Type 0 where

@@ -1,19 +1,16 @@
 //! Reading a protocol.
-ghost use Rattle.std.specs.Prelude.{◌≡◌, ◌≤◌, length, take, IfOk, IfErr, OnOk};
+ghost use Rattle.std.specs.Prelude.{◌≡◌, ◌≤◌, length, take, IfOk, IfErr};
 ghost use Rattle.dai_base.specs.Place.{IsPlaceAfter};
 ghost use Rattle.dai_logic.specs.Protocols.{protocol_of};
-ghost use Rattle.dai_syntax.specs.Trees.{declarations_of};
-ghost use Rattle.dai_rules.specs.Faults.{IsFaultless};
 ghost use Rattle.dai_front.specs.Files.{IsProtocolIn};
-ghost use Rattle.dai_front.specs.Refusals.{byte_stop, token_stop, sort_stop, IsSortStop, IsStop, IsReadError};
+ghost use Rattle.dai_front.specs.Refusals.{byte_stop, token_stop, sort_stop, IsStop, IsReadError};
 
 use crate::error::ReadError;
-use dai_base::{Place, Spent, place};
+use dai_base::{Place, place};
 use dai_lex::{LexError, lex};
 use dai_logic::Protocol;
-use dai_rules::sort_fault;
 use dai_sorts::{SortError, check};
-use dai_syntax::{File, SyntaxError, parse};
+use dai_syntax::{SyntaxError, parse};
 use std::alloc::Global;
 
 /// Why there is no protocol, by the offset into the bytes.
@@ -27,7 +24,7 @@ pub enum Stop {
 ///
 /// `Bad` comes exactly where they are refused, with the number and the place of their fault: the first byte that
 /// begins no token; or else the first token that fits no file within the limit of nesting; or else the first fault
-/// against the rules of sorts; or else 20 at the first byte, where the file has types.
+/// against the rules of sorts.
 pub fn read_protocol(alloc: Global, bytes: &[u8]) -> Result<Protocol, ReadError>
     requires { length bytes.now ≤ 1048576 }
     ensures protocol { IfOk result (λ p. IsProtocolIn bytes.now (protocol_of p)) }
@@ -56,25 +53,9 @@ fn read(alloc: Global, bytes: &[u8]) -> Result<Protocol, Stop>
         Ok(file) => file,
         Err(error) => return Err(no_file(error)),
     };
-    obey_rules(alloc, &file)?;
     match check(alloc, &file) {
         Ok(protocol) => Ok(protocol),
         Err(error) => Err(no_protocol(error)),
-    }
-}
-
-/// Whether the file breaks no rule of sorts.
-fn obey_rules(alloc: Global, file: &File) -> Result<(), Stop>
-    ensures faultless { OnOk result (IsFaultless (declarations_of file.now)) }
-    ensures refused { IfErr result (IsSortStop (declarations_of file.now)) }
-{
-    match sort_fault(alloc, file) {
-        Ok(Some(fault)) => Err(Stop::At {
-            number: fault.number,
-            at: fault.at,
-        }),
-        Ok(None) => Ok(()),
-        Err(Spent) => Err(Stop::Spent),
     }
 }
 
@@ -100,12 +81,12 @@ fn no_file(error: SyntaxError) -> Stop
     }
 }
 
-/// The refusal of a file with types, until these are translated.
+/// The refusal of a file that breaks a rule of sorts.
 fn no_protocol(error: SortError) -> Stop
     ensures { result ≡ sort_stop error }
 {
     match error {
-        SortError::Bad { .. } => Stop::At { number: 20, at: 0 },
+        SortError::Bad { number, at } => Stop::At { number, at },
         SortError::Spent => Stop::Spent,
     }
 }

@@ -91,7 +91,7 @@ bound_grows : (b : Binding) (binder : Binder) (o : Option ℕ) → length b.vari
 bound_grows b binder None = let k = length-append b.variables (binder.name ∷ []) in omega arith
 bound_grows b binder (Some v) = omega arith
 
-binders_grow : (b : Binding) (binders : List Binder) → length b.variables ≤ length (bound_by b binders).variables
+pub binders_grow : (b : Binding) (binders : List Binder) → length b.variables ≤ length (bound_by b binders).variables
 binders_grow b [] = omega arith
 binders_grow b (binder ∷ binders) =
     let h = bound_grows b binder (find (is_called b.variables binder.name.text) b.own) in

@@ -38,7 +38,7 @@ impl<'a> Judge<'a> {
     }
 
     /// Nothing is known of any variable.
-    fn begin(&mut self)
+    pub fn begin(&mut self)
         ensures { view_of self.new ≡ emptied (view_of self.old) }
     {
         self.naming.clear();
@@ -186,7 +186,7 @@ impl<'a> Judge<'a> {
     }
 
     /// The right side of an update.
-    fn right(&mut self, role: Role<'a>, kind: Kind<'a>, form: &'a Form) -> Result<(), Spent>
+    pub fn right(&mut self, role: Role<'a>, kind: Kind<'a>, form: &'a Form) -> Result<(), Spent>
         ensures { OnOk result (view_of self.new ≡ given (view_of self.old) (right_output (context_of self.old) (role_in (context_of self.old) role.entry) (naming_of self.old.naming) (kind_value kind.entry) (formula_of form.now)) (after_formula (naming_of self.old.naming) (formula_of form.now))) }
     {
         match kind {

@@ -3,10 +3,10 @@
 //! types of variables (`Types`) and the fault that is told (`Faults`).
 #![tactic(auto)]
 
-mod classes;
+pub mod classes;
 mod first;
-mod globals;
-mod judge;
+pub mod globals;
+pub mod judge;
 mod judge_formulas;
 mod judge_statements;
 mod judge_terms;
@@ -14,7 +14,7 @@ mod judge_wholes;
 mod law;
 #[cfg(test)]
 mod tests;
-mod variables;
+pub mod variables;
 
 pub use first::Fault;
 pub use judge_statements::sort_fault;

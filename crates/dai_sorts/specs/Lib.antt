@@ -1,6 +1,10 @@
-pub mod Flags
-pub mod Vocabulary
-pub mod Numbers
-pub mod Meaning
-pub mod Files
+pub mod Scopes
+pub mod Formulas
+pub mod Statements
+pub mod Protocols
+pub mod Sound
+pub mod Counts
+pub mod Readers
 pub mod Drafts
+pub mod Errors
+pub mod Gains

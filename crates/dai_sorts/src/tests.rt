@@ -1,11 +1,9 @@
-ghost use Rattle.std.specs.Prelude.{◌≡◌};
-
 use crate::checker::check;
 use crate::error::SortError;
-use dai_base::Text;
+use crate::written::write_protocol;
 use dai_lex::lex;
 use dai_logic::Protocol;
-use dai_syntax::{Decl, File, Form, Name, Stat, parse};
+use dai_syntax::parse;
 use std::alloc::Global;
 use std::test::Fail;
 
@@ -27,158 +25,82 @@ fn checked(alloc: Global, text: &[u8]) -> Result<Protocol, (u8, u32)> {
     }
 }
 
+/// Its text as tests write it.
+fn written(alloc: Global, text: &[u8]) -> Result<Vec<u8>, (u8, u32)> {
+    let protocol = checked(alloc, text)?;
+    let mut out = Vec::new(alloc);
+    match write_protocol(&protocol, &mut out) {
+        Ok(()) => Ok(out),
+        Err(_) => Err((255, 0)),
+    }
+}
+
+/// Locks that clients take: two types, and a relation between them.
+const LOCKS: &str =
+    "type client type server relation link(X:client, Y:server) relation semaphore(X:server)
+after init { semaphore(W) := true; link(X,Y) := false }
+action connect(x:client, y:server) = { require semaphore(y); link(x,y) := true; semaphore(y) := false }
+action disconnect(x:client, y:server) = { require link(x,y); link(x,y) := false; semaphore(y) := true }
+export connect export disconnect invariant [safety] link(X,Y) & link(Z,Y) -> X = Z";
+
+/// Locals of several blocks, in order; an action that isn't exported; a label by position.
+const LOCALS: &str = "ordered type n individual c : n relation p(X:n)
+after init { local a:n { c := a } } action hidden(x:n) = { c := x }
+after init { local b:n, d:n { p(b) := b < d } }
+export action seen(x:n) = { local a:n { if x <= a { c := a } else { local b:n { c := b; p(X) := X = x & X ~= b } } } }
+invariant p(X) & X < Y -> p(Y)";
+
+/// Quantifiers, free variables, and one name for several variables.
+const VARIABLES: &str = "type t type u relation r(X:t, Y:u) relation f individual k : u
+axiom [a] forall X:t, Y:u. r(X,Y) -> f after init { }
+export action go = {
+  require exists X. forall Y. r(X,Y) | Y = k;
+  require (forall X. r(X,k)) & r(Z,k);
+  require (exists X. r(X,k)) | (exists X. ~r(X,k))
+}
+conjecture [c] f <-> true <-> f conjecture f -> ~(exists X. r(X,Y))";
+
+/// An `else if`, individuals, and a type that is given behind its variable.
+const CHOICES: &str = "type t individual a : t individual b : t relation on after init { a := b }
+export action s(x:t) = { if on { a := x } else if a ~= x { b := a } assume X = a -> on | X:t ~= b }";
+
 #[test]
-fn accepts_two_flags(rt: HostRuntime) -> Result<(), Fail> {
-    let text =
-        "relation a\nrelation b\nafter init { a := false; b := true }\naction t = { require ~a; a := true; b := false }\nexport t\ninvariant [excl] ~(a & b)\n";
-    match checked(rt.alloc(), text.as_bytes()) {
-        Ok(protocol) => {
-            assert_eq!(rt; protocol.relations.len(), 2);
-            assert_eq!(rt; protocol.init.code.len(), 2);
-            assert_eq!(rt; protocol.actions.len(), 1);
-            assert_eq!(rt; protocol.invariants.len(), 1);
-            if let Some(relation) = protocol.relations.get(1) {
-                assert_eq!(rt; relation.name.as_bytes(), b"b".as_slice());
-            }
-            if let Some(action) = protocol.actions.first() {
-                assert_eq!(rt; action.name.as_bytes(), b"t".as_slice());
-                assert_eq!(rt; action.block.code.len(), 3);
-            }
-            if let Some(invariant) = protocol.invariants.first() {
-                assert_eq!(rt; invariant.label.as_bytes(), b"excl".as_slice());
-            }
+fn reads_protocols(rt: HostRuntime) -> Result<(), Fail> {
+    for (text, expected) in [
+        (
+            LOCKS,
+            "ss/r01r1///(.){!1v0T!0v0v1F}/connect(01.){?1p1!0p0p1T!1p1F}disconnect(01.){?0p0p1!0p0p1F!1p1T}/safety A00A11A20>&(0v0v10v2v1)=v0v2",
+        ),
+        (
+            LOCALS,
+            "o/r0/0//(.000){i0l0!0l1<l1l2}/seen(0.00){c[p0l0{i0l0}{i0l1!0v0&(=v0p0~=v0l1)}}/1 A00A10>&(0v0<v0v1)0v1",
+        ),
+        (
+            VARIABLES,
+            "ss/r01r/1/A00A11>0v0v11/(.){}/go(.){?E00A11|(0v0v1=v1i0)?A10&(A000v0i00v1i0)?|(E000v0i0E10~0v1i0)}/c *(1T1)2 A11>1~E000v0v1",
+        ),
+        (
+            CHOICES,
+            "s/r/00//(.){i0i1}/s(0.){c0{i0p0}{c~=i0p0{i1i0}{}}?A00>=v0i0|(0~=v0i1)}/",
+        ),
+    ] {
+        match written(rt.alloc(), text.as_bytes()) {
+            Ok(own) => assert_eq!(rt; own.as_slice(), expected.as_bytes(), "{text}"),
+            Err((number, at)) => assert_eq!(rt; (number, at), (0, 0), "{text}"),
         }
-        Err((number, at)) => assert_eq!(rt; (number, at), (0, 0)),
     }
     Ok(())
 }
 
 #[test]
-fn refuses_faults(rt: HostRuntime) {
+fn tells_the_first_fault(rt: HostRuntime) {
     for (text, number, at) in [
-        ("relation p\nrelation p\n", 21u8, 20u32),
-        ("relation p\naction p = { }\n", 21, 18),
-        ("invariant q\n", 22, 10),
-        ("relation p\nafter init { q := true }\n", 22, 24),
-        ("export t\n", 22, 7),
-        ("relation p\nexport p\n", 22, 18),
-        ("action t = { }\nrelation t\n", 21, 24),
-        ("action t = { q := true }\n", 22, 13),
+        ("relation a relation a", 21, 20),
+        ("type t relation p(X:t) invariant p(X) & q", 22, 40),
     ] {
         match checked(rt.alloc(), text.as_bytes()) {
-            Ok(_) => assert_eq!(rt; (0u8, 0u32), (number, at), "accepted"),
-            Err(fault) => assert_eq!(rt; fault, (number, at)),
+            Ok(_) => assert_eq!(rt; (0, 0), (number, at), "{text}"),
+            Err(fault) => assert_eq!(rt; fault, (number, at), "{text}"),
         }
     }
-}
-
-/// The labels and the names that `check` gives: an exported action once, in the order of the declarations.
-#[test]
-fn keeps_what_is_exported(rt: HostRuntime) -> Result<(), Fail> {
-    let text =
-        "export b\naction a = { }\naction b = { p := true }\nexport action c = { }\nexport b\nrelation p\ninvariant [x] p\ninvariant ~p\n";
-    match checked(rt.alloc(), text.as_bytes()) {
-        Ok(protocol) => {
-            assert_eq!(rt; protocol.actions.len(), 2);
-            if let Some(action) = protocol.actions.first() {
-                assert_eq!(rt; action.name.as_bytes(), b"b".as_slice());
-            }
-            assert_eq!(rt; protocol.invariants.len(), 2);
-            if let Some(invariant) = protocol.invariants.get(1) {
-                assert_eq!(rt; invariant.label.as_bytes(), b"2".as_slice());
-            }
-        }
-        Err((number, at)) => assert_eq!(rt; (number, at), (0, 0)),
-    }
-    Ok(())
-}
-
-/// A name at this offset.
-fn name(alloc: Global, text: &str, at: u32) -> Result<Name, Fail> {
-    Ok(Name {
-        text: Text::from_bytes(alloc, text.as_bytes())?,
-        at,
-    })
-}
-
-/// The relation of this name as a formula.
-fn atom(alloc: Global, text: &str) -> Result<Form, Fail> {
-    Ok(Form::Atom {
-        name: name(alloc, text, 9)?,
-        args: Vec::new(alloc),
-    })
-}
-
-/// Two relations, the axiom `p`, and an init that assigns the flag if `q` holds.
-fn file_with_axiom(alloc: Global, flag: &str) -> Result<File, Fail> {
-    let mut decls = Vec::new(alloc);
-    for text in ["p", "q"] {
-        decls.push(Decl::RelDecl {
-            name: name(alloc, text, 0)?,
-            args: Vec::new(alloc),
-        })?;
-    }
-    decls.push(Decl::AxiomDecl {
-        body: atom(alloc, "p")?,
-        at: 5,
-    })?;
-    let assignment = Stat::Assign {
-        name: name(alloc, flag, 7)?,
-        args: Vec::new(alloc),
-        body: Form::Truth { value: true },
-    };
-    let conditional = Stat::Cond {
-        cond: atom(alloc, "q")?,
-        yes: vec![in alloc; assignment]?,
-        no: Vec::new(alloc),
-    };
-    decls.push(Decl::InitDecl {
-        body: vec![in alloc; conditional]?,
-    })?;
-    Ok(File { decls })
-}
-
-#[test]
-fn spares_what_axioms_name(rt: HostRuntime) -> Result<(), Fail> {
-    let spared = file_with_axiom(rt.alloc(), "q")?;
-    match check(rt.alloc(), &spared) {
-        Ok(protocol) => {
-            assert_eq!(rt; protocol.axioms.len(), 1);
-            assert_eq!(rt; protocol.init.code.len(), 1);
-        }
-        Err(_) => assert_eq!(rt; 0, 1, "refused"),
-    }
-    let assigned = file_with_axiom(rt.alloc(), "p")?;
-    match check(rt.alloc(), &assigned) {
-        Ok(_) => assert_eq!(rt; 0, 1, "accepted"),
-        Err(error) => assert_eq!(rt; error, SortError::Bad { number: 27, at: 7 }),
-    }
-    Ok(())
-}
-
-/// A file of so many relations, at most a hundred, with names of two digits.
-fn many_relations(alloc: Global, count: u8) -> Result<Vec<u8>, Fail> {
-    let mut text = Vec::new(alloc);
-    for number in 0..count.min(99) {
-        text.extend_from_slice(b"relation r")?;
-        text.push(b'0' + number / 10)?;
-        text.push(b'0' + number % 10)?;
-        text.push(b'\n')?;
-    }
-    Ok(text)
-}
-
-#[test]
-fn limits_relations(rt: HostRuntime) -> Result<(), Fail> {
-    let most = many_relations(rt.alloc(), 64)?;
-    match checked(rt.alloc(), most.as_slice()) {
-        Ok(protocol) => assert_eq!(rt; protocol.relations.len(), 64),
-        Err((number, at)) => assert_eq!(rt; (number, at), (0, 0)),
-    }
-    let more = many_relations(rt.alloc(), 65)?;
-    match checked(rt.alloc(), more.as_slice()) {
-        Ok(_) => assert_eq!(rt; (0u8, 0u32), (42, 841)),
-        Err(fault) => assert_eq!(rt; fault, (42, 841)),
-    }
-    Ok(())
 }

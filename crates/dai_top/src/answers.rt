@@ -11,7 +11,6 @@ ghost use Rattle.dai_words.specs.declared.settings.Command.TheVariants.{Infer as
 ghost use Rattle.dai_words.specs.Readings.{choices_of};
 ghost use Rattle.dai_words.specs.Words.{AreWithinRanges};
 ghost use Rattle.dai_table.specs.Flags.{IsTableOf};
-ghost use Rattle.dai_front.specs.Files.{AreOneProtocol};
 ghost use Rattle.dai_top.specs.Bounds.{bounds_of};
 ghost use Rattle.dai_top.specs.Limits.{fault_of, command_fault};
 ghost use Rattle.dai_top.specs.Answers.{Answer as Meaning, IsAnswerTo};
@@ -49,7 +48,7 @@ pub fn answer_to(alloc: Global, settings: &Settings, bytes: &[u8]) -> Result<Ans
     requires ranges { AreWithinRanges (choices_of settings.now) }
     ensures refused { IfErr result (IsStop (choices_of settings.now) bytes.now) }
     ensures counted { IfOk result (λ a. settings.now.command ≡ counts_space → IsAnswerTo (choices_of settings.now) bytes.now (answer_of a)) }
-    ensures reported { IfOk result (λ a. settings.now.command ≡ infers → AreOneProtocol bytes.now → (x : Meaning) → IsAnswerTo (choices_of settings.now) bytes.now x → ⊥) }
+    ensures reported { IfOk result (λ a. settings.now.command ≡ infers → (x : Meaning) → IsAnswerTo (choices_of settings.now) bytes.now x → ⊥) }
     ensures status { IfOk result (λ a. a.status ≤ 1) }
 {
     one_verdict();

@@ -13,7 +13,7 @@ const LOCK: &str =
     "#lang ivy1.7\ntype client\ntype server\nrelation link(X:client, Y:server)\nrelation semaphore(X:server)\nafter init {\n  semaphore(W) := true;\n  link(X,Y) := false\n}\naction connect(x:client, y:server) = {\n  require semaphore(y);\n  link(x,y) := true;\n  semaphore(y) := false\n}\naction disconnect(x:client, y:server) = {\n  require link(x,y);\n  link(x,y) := false;\n  semaphore(y) := true\n}\nexport connect\nexport disconnect\ninvariant [safety] link(X,Y) & link(Z,Y) -> X = Z\n";
 
 /// The files that are held.
-const HELD: [(&str, &str); 12] = [
+const HELD: [(&str, &str); 15] = [
     ("ab.ivy", TWO_FLAGS),
     ("swap.ivy", SWAP),
     ("none.ivy", "relation p\naxiom p & ~p\n"),
@@ -26,10 +26,19 @@ const HELD: [(&str, &str); 12] = [
     ("end.ivy", "relation p\naction a = { p :="),
     ("left.ivy", "relation p\naction a = { p := * }"),
     ("lock.ivy", LOCK),
+    ("t64.ivy", "type t\nrelation r(X:t, Y:t, Z:t)\n"),
+    (
+        "t68.ivy",
+        "type t\nrelation r(X:t, Y:t, Z:t)\nrelation p(X:t)\n",
+    ),
+    (
+        "big3.ivy",
+        "type t\naction big(a:t, b:t, c:t, d:t, e:t, f:t) = { local g:t, h:t, i:t { } }\nexport big\n",
+    ),
 ];
 
 /// Words, and the status, `out` and `err` that answer them.
-const ROWS: [(&str, u8, &str, &str); 23] = [
+const ROWS: [(&str, u8, &str, &str); 27] = [
     (
         "infer ab.ivy --lits 2",
         0,
@@ -99,12 +108,30 @@ const ROWS: [(&str, u8, &str, &str); 23] = [
     ("", 2, "", "distai: word 1: E01 bad words\n"),
     (
         "space lock.ivy --vars client=2,server=1 --lits 2",
-        2,
+        0,
+        "types 2\nshapes 6\natoms 3\ntemplates 34\nbound client 3\nbound server 2\nground 20\nmoves 32\n",
         "",
-        "lock.ivy:1:1: E20 not in the profile\n",
     ),
     (
-        "infer ab.ivy --vars node=1",
+        "space t64.ivy --vars t=4 --lits 1",
+        0,
+        "types 1\nshapes 5\natoms 64\ntemplates 205\nbound t 4\nground 64\nmoves 0\n",
+        "",
+    ),
+    (
+        "space t68.ivy --vars t=4 --lits 1",
+        2,
+        "",
+        "t68.ivy: E40 atoms 68, limit 64\n",
+    ),
+    (
+        "space big3.ivy --vars t=1",
+        2,
+        "",
+        "big3.ivy: E43 moves 262144, limit 65536\n",
+    ),
+    (
+        "infer lock.ivy --vars node=1",
         2,
         "",
         "distai: word 4: E03 unknown type\n",
@@ -121,6 +148,12 @@ const ROWS: [(&str, u8, &str, &str); 23] = [
         2,
         "",
         "twice.ivy:2:10: E21 declared twice\n",
+    ),
+    (
+        "infer big3.ivy --vars t=1",
+        2,
+        "",
+        "big3.ivy: E43 moves 262144, limit 65536\n",
     ),
     (
         "space empty.ivy",
@@ -154,59 +187,6 @@ fn answers_and_refusals(rt: HostRuntime) -> Result<(), Fail> {
         let mut err = SureSink::new(alloc);
         let answer = distai(alloc, words.as_slice(), &mut files, &mut out, &mut err);
         assert_eq!(rt; answer, *status, "{line}");
-        assert_eq!(rt; out.bytes(), out_text.as_bytes(), "{line}");
-        assert_eq!(rt; err.bytes(), err_text.as_bytes(), "{line}");
-    }
-    Ok(())
-}
-
-/// A file of so many relations, with names of two digits.
-fn many_relations(alloc: Global, count: u8) -> Result<Vec<u8>, Fail> {
-    let mut text = Vec::new(alloc);
-    for number in 1..=count {
-        text.extend_from_slice(b"relation r")?;
-        text.push(b'0' + number / 10 % 10)?;
-        text.push(b'0' + number % 10)?;
-        text.push(b'\n')?;
-    }
-    Ok(text)
-}
-
-/// The largest space of flags within the limits at three literals, and the next one.
-#[test]
-fn counts_many_flags(rt: HostRuntime) -> Result<(), Fail> {
-    let alloc = rt.alloc();
-    for (line, count, status, out_text, err_text) in [
-        (
-            "space m.ivy --lits 3",
-            53u8,
-            0u8,
-            "types 0\nshapes 1\natoms 53\ntemplates 193027\nground 53\nmoves 0\n",
-            "",
-        ),
-        (
-            "space m.ivy --lits 3",
-            54,
-            2,
-            "",
-            "m.ivy: E40 templates 204265, limit 200000\n",
-        ),
-        (
-            "infer m.ivy --lits 1",
-            11,
-            2,
-            "",
-            "m.ivy:1:1: E20 not in the profile\n",
-        ),
-    ] {
-        let words = words_of(alloc, line)?;
-        let mut files = SureFiles::new(alloc);
-        let text = many_relations(alloc, count)?;
-        files.hold("m.ivy", &text).ok().ok_or("memory")?;
-        let mut out = SureSink::new(alloc);
-        let mut err = SureSink::new(alloc);
-        let answer = distai(alloc, words.as_slice(), &mut files, &mut out, &mut err);
-        assert_eq!(rt; answer, status, "{line}");
         assert_eq!(rt; out.bytes(), out_text.as_bytes(), "{line}");
         assert_eq!(rt; err.bytes(), err_text.as_bytes(), "{line}");
     }

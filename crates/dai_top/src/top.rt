@@ -2,7 +2,6 @@
 ghost use Rattle.std.specs.Prelude.{◌≡◌, ℕ, ◌+◌, ◌≤◌, ◌⊎◌, List, length, Some, Ok, Err};
 ghost use Rattle.dai_base.specs.Count.{Rises};
 ghost use Rattle.dai_base.specs.Files.{Holdings};
-ghost use Rattle.dai_front.specs.Files.{AreOneProtocol};
 ghost use Rattle.dai_words.specs.Refusals.{Refusal};
 ghost use Rattle.dai_words.specs.Words.{Choices, settings_of, AreWithinRanges};
 ghost use Rattle.dai_words.specs.Readings.{texts, choices_of};
@@ -35,9 +34,8 @@ pub fn distai<F: Files, O: Sink, E: Sink>(
     // Words that are refused: no file is read, nothing is put to `out`, and `err` gets the fault's line.
     ensures refused_words { (r : Refusal) → settings_of (texts words.now) ≡ Err r → (files.new ≡ files.old) × (out.new ≡ out.old) × IsTold (words_line r) 2 (E.written err.old) (E.written err.new) (E.faults err.old) (E.faults err.new) result }
 
-    // Words that are accepted and bytes that are held and are one protocol at most: their answer is put, or the read
-    // failed and its line is put.
-    ensures answered { (c : Choices) (held : Holdings) (bytes : List ℕ) (x : Meaning) → settings_of (texts words.now) ≡ Ok c → F.held files.old ≡ Some held → held c.operand ≡ Some bytes → AreOneProtocol bytes → IsAnswerTo c bytes x
+    // Words that are accepted and bytes that are held: their answer is put, or the read failed and its line is put.
+    ensures answered { (c : Choices) (held : Holdings) (bytes : List ℕ) (x : Meaning) → settings_of (texts words.now) ≡ Ok c → F.held files.old ≡ Some held → held c.operand ≡ Some bytes → IsAnswerTo c bytes x
         → ((x.status ≡ 2) × (out.new ≡ out.old) × IsTold x.err 2 (E.written err.old) (E.written err.new) (E.faults err.old) (E.faults err.new) result)
         ⊎ (((x.status ≡ 0) × (err.new ≡ err.old) × IsTold x.out 0 (O.written out.old) (O.written out.new) (O.faults out.old) (O.faults out.new) result)
         ⊎ (Rises (F.faults files.old) (F.faults files.new) × (out.new ≡ out.old) × IsTold (read_line c.operand) 3 (E.written err.old) (E.written err.new) (E.faults err.old) (E.faults err.new) result)) }
@@ -70,7 +68,7 @@ fn run<F: Files, O: Sink, E: Sink>(
     err: &mut E,
 ) -> u8
     requires { AreWithinRanges (choices_of settings.now) }
-    ensures answered { (held : Holdings) (bytes : List ℕ) (x : Meaning) → F.held files.old ≡ Some held → held (choices_of settings.now).operand ≡ Some bytes → AreOneProtocol bytes → IsAnswerTo (choices_of settings.now) bytes x
+    ensures answered { (held : Holdings) (bytes : List ℕ) (x : Meaning) → F.held files.old ≡ Some held → held (choices_of settings.now).operand ≡ Some bytes → IsAnswerTo (choices_of settings.now) bytes x
         → ((x.status ≡ 2) × (out.new ≡ out.old) × IsTold x.err 2 (E.written err.old) (E.written err.new) (E.faults err.old) (E.faults err.new) result)
         ⊎ (((x.status ≡ 0) × (err.new ≡ err.old) × IsTold x.out 0 (O.written out.old) (O.written out.new) (O.faults out.old) (O.faults out.new) result)
         ⊎ (Rises (F.faults files.old) (F.faults files.new) × (out.new ≡ out.old) × IsTold (read_line (choices_of settings.now).operand) 3 (E.written err.old) (E.written err.new) (E.faults err.old) (E.faults err.new) result)) }
@@ -96,7 +94,7 @@ fn run_on<O: Sink, E: Sink>(
 ) -> u8
     requires short { length bytes.now ≤ 1048576 }
     requires ranges { AreWithinRanges (choices_of settings.now) }
-    ensures answered { AreOneProtocol bytes.now → (x : Meaning) → IsAnswerTo (choices_of settings.now) bytes.now x
+    ensures answered { (x : Meaning) → IsAnswerTo (choices_of settings.now) bytes.now x
         → ((x.status ≡ 2) × (out.new ≡ out.old) × IsTold x.err 2 (E.written err.old) (E.written err.new) (E.faults err.old) (E.faults err.new) result)
         ⊎ ((x.status ≡ 0) × (err.new ≡ err.old) × IsTold x.out 0 (O.written out.old) (O.written out.new) (O.faults out.old) (O.faults out.new) result) }
     ensures refused { result ≡ 2 → (out.new ≡ out.old) × TellsRefusalOf bytes.now (choices_of settings.now) (E.written err.old) (E.written err.new) }

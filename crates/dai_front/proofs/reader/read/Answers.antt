@@ -4,7 +4,7 @@ use Rattle.dai_lex.specs.Tokens.{IsTokens}
 use Rattle.dai_syntax.specs.Trees.{declarations_of}
 use Rattle.dai_front.specs.declared.reader.Stop.{Stop}
 use Rattle.dai_front.specs.Refusals.{IsStop}
-use Rattle.dai_front.proofs.Refusals.{byte_stopped, token_stopped, rule_stopped, sort_stopped, passed_on}
+use Rattle.dai_front.proofs.Refusals.{byte_stopped, token_stopped, sort_stopped}
 use Rattle.dai_front.proofs.reader.read.Goals as goal
 
 pub returns-in-Err-clause-refused : goal.returns-in-Err-clause-refused
@@ -20,7 +20,7 @@ pub returns-clause-refused : goal.returns-clause-refused
 returns-clause-refused c =
     let H : IsTokens c.args.bytes.now c.as_slice.result.now = let P : List Token → Type 0 = λ ts. IsTokens c.args.bytes.now ts in subst P (sym c.as_slice.ensures.value) c.in-Ok.ensures.tokens in
     let P : Stop → Type 0 = λ r. IsStop c.args.bytes.now r in
-    subst P (sym c.no_protocol.ensures) (sort_stopped c.args.bytes.now c.as_slice.result.now (declarations_of c.in-Ok-parse.file) c.in-Err-check.error H c.in-Ok-parse.ensures.file c.in_ok-obey_rules.ensures.faultless c.in-Err-check.ensures.refused)
+    subst P (sym c.no_protocol.ensures) (sort_stopped c.args.bytes.now c.as_slice.result.now (declarations_of c.in-Ok-parse.file) c.in-Err-check.error H c.in-Ok-parse.ensures.file c.in-Err-check.ensures.refused)
 
 pub returns-in-Ok-check-clause-protocol : goal.returns-in-Ok-check-clause-protocol
 returns-in-Ok-check-clause-protocol c =
@@ -30,12 +30,6 @@ returns-in-Ok-check-clause-protocol c =
       declarations = declarations_of c.in-Ok-parse.file;
       are_tokens = H;
       is_file = c.in-Ok-parse.ensures.file;
-      faultless = c.in_ok-obey_rules.ensures.faultless;
-      protocol = c.in-Ok-check.ensures.protocol;
+      faultless = c.in-Ok-check.ensures.protocol.0;
+      protocol = c.in-Ok-check.ensures.protocol.1;
     }
-
-pub returns-in_err-obey_rules-clause-refused : goal.returns-in_err-obey_rules-clause-refused
-returns-in_err-obey_rules-clause-refused c =
-    let H : IsTokens c.args.bytes.now c.as_slice.result.now = let P : List Token → Type 0 = λ ts. IsTokens c.args.bytes.now ts in subst P (sym c.as_slice.ensures.value) c.in-Ok.ensures.tokens in
-    let s = c.in_err-obey_rules.field-0.0 in
-    passed_on c.args.bytes.now c.from_residual.result s c.from_residual.ensures.1 (rule_stopped c.args.bytes.now c.as_slice.result.now (declarations_of c.in-Ok-parse.file) s H c.in-Ok-parse.ensures.file c.in_err-obey_rules.ensures.refused)

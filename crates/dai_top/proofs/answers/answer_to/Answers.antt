@@ -6,7 +6,7 @@ use Rattle.dai_top.specs.Answers.{refusal, IsAnswerTo, bad_choices}
 use Rattle.dai_top.proofs.Faults.{all_passed_on}
 use Rattle.dai_top.specs.declared.stop.Stop.{Stop}
 use Rattle.dai_top.specs.Stops.{IsStop}
-use Rattle.dai_top.proofs.OneAnswer.{counted_by, reported_by, stopped_by}
+use Rattle.dai_top.proofs.OneAnswer.{OneVerdict, counted_by, reported_by, stopped_by}
 use Rattle.dai_top.proofs.answers.answer_to.Goals as goal
 
 pub returns-in-Ok-clause-refused : goal.returns-in-Ok-clause-refused
@@ -18,14 +18,17 @@ returns-in-Ok-clause-refused c =
 
 pub returns-in-Ok-clause-counted : goal.returns-in-Ok-clause-counted
 returns-in-Ok-clause-counted c =
-    counted_by (choices_of c.args.settings.now) c.args.bytes.now (protocol_of c.in-Ok.protocol) c.requires.short c.in-Ok.ensures.protocol c.answer_on.result c.answer_on.ensures.accepted c.answer_on.ensures.counted
+    let P = protocol_of c.in-Ok.protocol in
+    let choices = choices_of c.args.settings.now in
+    let laws : OneVerdict = record { fault = c.one_verdict.ensures.fault; protocol = c.one_verdict.ensures.protocol; never_both = c.one_verdict.ensures.never_both } in
+    counted_by choices c.args.bytes.now P c.requires.short c.in-Ok.ensures.protocol c.answer_on.result c.answer_on.ensures.accepted c.answer_on.ensures.counted
 
 pub returns-in-Ok-clause-reported : goal.returns-in-Ok-clause-reported
 returns-in-Ok-clause-reported c =
-    let bytes = c.args.bytes.now in
-    reported_by (choices_of c.args.settings.now) bytes (protocol_of c.in-Ok.protocol)
-    (λ one. record { fault = c.one_verdict.ensures.fault bytes; protocol = one; never_both = c.one_verdict.ensures.never_both bytes })
-    c.requires.short c.in-Ok.ensures.protocol c.answer_on.result c.answer_on.ensures.accepted
+    let P = protocol_of c.in-Ok.protocol in
+    let choices = choices_of c.args.settings.now in
+    let laws : OneVerdict = record { fault = c.one_verdict.ensures.fault; protocol = c.one_verdict.ensures.protocol; never_both = c.one_verdict.ensures.never_both } in
+    reported_by laws choices c.args.bytes.now P c.requires.short c.in-Ok.ensures.protocol c.answer_on.result c.answer_on.ensures.accepted
 
 pub returns-in-Err-clause-refused : goal.returns-in-Err-clause-refused
 returns-in-Err-clause-refused c =

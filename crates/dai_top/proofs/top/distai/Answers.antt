@@ -13,10 +13,10 @@ run-requires g c = c.settings_are_within_ranges.ensures (texts c.args.words.now)
 
 -- the settings are those that the words give
 pub returns-in-Ok-clause-answered : goal.returns-in-Ok-clause-answered
-returns-in-Ok-clause-answered g c = λ given held bytes x read h k one answer.
+returns-in-Ok-clause-answered g c = λ given held bytes x read h k answer.
     let same : choices_of c.in-Ok.settings ≡ given = let e = c.in-Ok.ensures in cc in
     let found = ap (λ (d : Choices). held d.operand) same ∙ k in
-    rw (sym same) (c.run.ensures.answered held bytes x h found one (subst (λ (d : Choices). IsAnswerTo d bytes x) (sym same) answer))
+    rw (sym same) (c.run.ensures.answered held bytes x h found (subst (λ (d : Choices). IsAnswerTo d bytes x) (sym same) answer))
 
 -- the refusal is the one that the words give
 pub returns-in-Err-Bad-clause-refused_words : goal.returns-in-Err-Bad-clause-refused_words
@@ -28,6 +28,6 @@ returns-in-Err-Bad-clause-refused_words g c = λ r read.
     (refl, refl, subst (λ (s : Refusal). IsTold (words_line s) 2 (g.E.Sink.written c.args.err.now) (g.E.Sink.written c.tell.new.sink) (g.E.Sink.faults c.args.err.now) (g.E.Sink.faults c.tell.new.sink) c.tell.result) same told)
 
 pub returns-in-Err-Spent-clause-answered : goal.returns-in-Err-Spent-clause-answered
-returns-in-Err-Spent-clause-answered g c = λ given held bytes x read told there one h.
+returns-in-Err-Spent-clause-answered g c = λ given held bytes x read told there h.
     ⊎_elim (λ two. inl (two, refl, inr (inr (refl, part_none (g.E.Sink.written c.args.err.now) x.err)))) (λ zero. inr (inl (zero, refl, inr (inr (refl, part_none (g.O.Sink.written c.args.out.now) x.out)))))
     (refused_or_done given bytes x h)

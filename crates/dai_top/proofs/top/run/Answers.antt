@@ -32,6 +32,6 @@ returns-in-Err-TooLong-clause-refused g c = λ two.
     )
 
 pub returns-in-Err-Spent-clause-answered : goal.returns-in-Err-Spent-clause-answered
-returns-in-Err-Spent-clause-answered g c = λ held bytes x told there one h.
+returns-in-Err-Spent-clause-answered g c = λ held bytes x told there h.
     ⊎_elim (λ two. inl (two, refl, inr (inr (refl, part_none (g.E.Sink.written c.args.err.now) x.err)))) (λ zero. inr (inl (zero, refl, inr (inr (refl, part_none (g.O.Sink.written c.args.out.now) x.out)))))
     (refused_or_done (choices_of c.args.settings.now) bytes x h)

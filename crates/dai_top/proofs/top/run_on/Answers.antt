@@ -10,8 +10,8 @@ use Rattle.dai_top.proofs.Puts.{part_none}
 use Rattle.dai_top.proofs.top.run_on.Goals as goal
 
 pub returns-in-Ok-clause-answered : goal.returns-in-Ok-clause-answered
-returns-in-Ok-clause-answered g c = λ one x h.
-    let laws : OneVerdict c.args.bytes.now = record { fault = c.one_verdict.ensures.fault c.args.bytes.now; protocol = one; never_both = c.one_verdict.ensures.never_both c.args.bytes.now } in
+returns-in-Ok-clause-answered g c = λ x h.
+    let laws : OneVerdict = record { fault = c.one_verdict.ensures.fault; protocol = c.one_verdict.ensures.protocol; never_both = c.one_verdict.ensures.never_both } in
     let same = done_by (choices_of c.args.settings.now) c.args.bytes.now c.in-Ok.answer x laws c.requires.ranges.command c.in-Ok.ensures.counted c.in-Ok.ensures.reported h in
     let T : ℕ → List ℕ → Type 0 = λ status text. IsTold text status (g.O.Sink.written c.args.out.now) (g.O.Sink.written c.put_lines.new.sink) (g.O.Sink.faults c.args.out.now) (g.O.Sink.faults c.put_lines.new.sink) c.put_lines.result in
     let told : T x.status x.out = subst (λ (y : Answer). T y.status y.out) same (subst (T c.in-Ok.answer.status) c.as_slice.ensures.value c.put_lines.ensures) in
@@ -20,16 +20,16 @@ returns-in-Ok-clause-answered g c = λ one x h.
     ⊎_elim (λ two. absurd (let e : c.in-Ok.answer.status ≡ 2 = own ∙ two in omega (arith, e, low))) (λ zero. inr (zero, refl, subst (λ n. T n x.out) zero told)) (refused_or_done (choices_of c.args.settings.now) c.args.bytes.now x h)
 
 pub returns-in-Err-Fault-clause-answered : goal.returns-in-Err-Fault-clause-answered
-returns-in-Err-Fault-clause-answered g c = λ one x h.
-    let laws : OneVerdict c.args.bytes.now = record { fault = c.one_verdict.ensures.fault c.args.bytes.now; protocol = one; never_both = c.one_verdict.ensures.never_both c.args.bytes.now } in
+returns-in-Err-Fault-clause-answered g c = λ x h.
+    let laws : OneVerdict = record { fault = c.one_verdict.ensures.fault; protocol = c.one_verdict.ensures.protocol; never_both = c.one_verdict.ensures.never_both } in
     let S : Stop → Type 0 = λ s. IsStop (choices_of c.args.settings.now) c.args.bytes.now s in
     let refused = subst S c.in-Err-Fault.field-0-is c.in-Err-Fault.ensures.refused in
-    let same = one_answer c.args.bytes.now laws (choices_of c.args.settings.now) (refusal (choices_of c.args.settings.now).operand c.in-Err-Fault.fault) x refused.0 h in
+    let same = one_answer laws (choices_of c.args.settings.now) c.args.bytes.now (refusal (choices_of c.args.settings.now).operand c.in-Err-Fault.fault) x refused.0 h in
     let T : List ℕ → Type 0 = λ text. IsTold text 2 (g.E.Sink.written c.args.err.now) (g.E.Sink.written c.tell.new.sink) (g.E.Sink.faults c.args.err.now) (g.E.Sink.faults c.tell.new.sink) c.tell.result in
     let told = subst T (ap (λ name. fault_text name c.in-Err-Fault.fault) c.as_str.ensures.value ∙ ap (λ (y : Answer). y.err) same) c.tell.ensures in
     inl (sym (ap (λ (y : Answer). y.status) same), refl, told)
 
 pub returns-in-Err-Spent-clause-answered : goal.returns-in-Err-Spent-clause-answered
-returns-in-Err-Spent-clause-answered g c = λ one x h.
+returns-in-Err-Spent-clause-answered g c = λ x h.
     ⊎_elim (λ two. inl (two, refl, inr (inr (refl, part_none (g.E.Sink.written c.args.err.now) x.err)))) (λ zero. inr (zero, refl, inr (inr (refl, part_none (g.O.Sink.written c.args.out.now) x.out))))
     (refused_or_done (choices_of c.args.settings.now) c.args.bytes.now x h)
