@@ -1,3 +1,9 @@
+pub mod Pieces
 pub mod Tokens
+pub mod Files
+pub mod Drafts
 pub mod Reports
 pub mod Judgements
+pub mod Talks
+pub mod Inquiries
+pub mod Endings

@@ -2,7 +2,7 @@ use Rattle.std.specs.Prelude.{◌≡◌, ◌+◌, ◌++◌, ℕ, Bool, true, fal
 use Rattle.std.specs.Fmt.{decimal}
 use Rattle.dai_sat.specs.declared.answer.Answer.{Answer}
 use Rattle.dai_sat.specs.declared.answer.Answer.TheVariants.{Model, Unsat}
-use Rattle.dai_sat.specs.Formula.{Formula, IsModelOf, IsUnsatisfiable}
+use Rattle.dai_trail.specs.Formula.{Formula, IsModelOf, IsUnsatisfiable}
 use Rattle.dai_sat.specs.Answers.{IsAnswerTo}
 use Rattle.dai_dimacs.specs.declared.report.Report.{Report}
 

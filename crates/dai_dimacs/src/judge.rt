@@ -1,4 +1,5 @@
 ghost use Rattle.std.specs.Prelude.{◌≡◌, IfOk};
+ghost use Rattle.dai_dimacs.specs.Pieces.{lines};
 ghost use Rattle.dai_dimacs.specs.Reports.{IsLeastAnswerTo, IsAnyAnswerTo};
 ghost use Rattle.dai_dimacs.specs.Judgements.{IsRight};
 
@@ -25,7 +26,7 @@ pub enum Verdict {
 /// Reads a file and reports the least model of its formula, where a false variable counts as less, or that
 /// there is none.
 pub fn judge(alloc: Global, bytes: &[u8]) -> Result<Verdict, Spent>
-    ensures { IfOk result (IsRight IsLeastAnswerTo) }
+    ensures { IfOk result (IsRight IsLeastAnswerTo (lines bytes.now)) }
 {
     match read(alloc, bytes)? {
         Reading::Malformed(line) => Ok(Verdict::Malformed(line)),
@@ -54,7 +55,7 @@ fn solve_any(solver: &mut Solver) -> Result<Solved, Spent>
 
 /// Reads a file and reports any model of its formula, or that there is none.
 pub fn judge_any(alloc: Global, bytes: &[u8]) -> Result<Verdict, Spent>
-    ensures { IfOk result (IsRight IsAnyAnswerTo) }
+    ensures { IfOk result (IsRight IsAnyAnswerTo (lines bytes.now)) }
 {
     match read(alloc, bytes)? {
         Reading::Malformed(line) => Ok(Verdict::Malformed(line)),

@@ -4,10 +4,21 @@
 //! its line, with status 1.
 #![tactic(auto)]
 
+ghost use Rattle.std.specs.Prelude.{IfOk};
+ghost use Rattle.dai_dimacs.specs.Pieces.{lines};
+ghost use Rattle.dai_dimacs.specs.Endings.{IsEndingOf};
+
 mod ask;
+mod draft;
 mod judge;
+mod law;
+mod outcome;
+mod pieces;
 mod read;
 mod report;
+#[cfg(test)]
+mod tests;
+mod tokens;
 
 use ask::{Talk, answer_all};
 use dai_base::Spent;
@@ -35,7 +46,9 @@ enum Ending {
 }
 
 /// The answer to a file.
-fn answer(alloc: Global, mode: Mode, bytes: &[u8]) -> Result<Ending, Spent> {
+fn answer(alloc: Global, mode: Mode, bytes: &[u8]) -> Result<Ending, Spent>
+    ensures { IfOk result (IsEndingOf mode (lines bytes.now)) }
+{
     match mode {
         Mode::Least => Ok(Ending::Verdict(judge(alloc, bytes)?)),
         Mode::Any => Ok(Ending::Verdict(judge_any(alloc, bytes)?)),

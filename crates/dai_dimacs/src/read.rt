@@ -1,9 +1,15 @@
-ghost use Rattle.std.specs.Prelude.{IfSome, OnOk};
-ghost use Rattle.dai_sat.specs.Formula.{IsBelow};
-ghost use Rattle.dai_dimacs.specs.Tokens.{IsTokenBelow};
+//! Reading a file of the DIMACS form.
+ghost use Rattle.std.specs.Prelude.{◌≡◌, ◌+◌, ◌++◌, ◌∷◌, [], ℕ, List, length, IfOk, IfSome, MatchOption};
+ghost use Rattle.dai_trail.specs.Formula.{IsBelow};
+ghost use Rattle.dai_dimacs.specs.Pieces.{lines};
+ghost use Rattle.dai_dimacs.specs.Files.{is_content as has_content, IsHeader, IsTextOf, IsNoText, Begins, IsReadingOf};
+ghost use Rattle.dai_dimacs.specs.Drafts.{AreRead, TakesLine};
 
+use crate::draft::Draft;
+use crate::pieces::{first_line, first_word};
+use crate::tokens::number;
 use dai_base::Spent;
-use dai_sat::{Cnf, Lit};
+use dai_sat::Cnf;
 use std::alloc::Global;
 
 /// A file that was read, or the number of the line that is wrong.
@@ -13,138 +19,99 @@ pub enum Reading {
     Malformed(usize),
 }
 
-/// What a word of a clause stands for.
-pub enum Token {
-    /// The end of the clause.
-    End,
-    /// A literal.
-    Literal(Lit),
+/// Whether the line is neither a comment nor blank.
+#[tactic(auto, unfolding(crate::specs::Files::is_content))]
+pub fn is_content(line: &[u8]) -> bool
+    ensures { result ≡ has_content line.now }
+{
+    line.first() != Some(&b'c') && first_word(line).is_some()
 }
 
-/// The number that the digits spell.
-fn number(digits: &[u8]) -> Option<usize> {
-    if digits.is_empty() {
+/// The number of variables and of clauses, where the line is a header.
+pub fn header(line: &[u8]) -> Option<(usize, usize)>
+    ensures { MatchOption result ((vars : ℕ) (count : ℕ) → IsHeader line.now vars count → ⊥) (λ h. IsHeader line.now h.0 h.1) }
+{
+    let (first, rest) = first_word(line)?;
+    let (second, rest) = first_word(rest)?;
+    let (vars, rest) = first_word(rest)?;
+    let (count, rest) = first_word(rest)?;
+    if first != b"p".as_slice() || second != b"cnf".as_slice() || first_word(rest).is_some() {
         return None;
     }
-    let mut value = 0usize;
-    for digit in digits {
-        if !digit.is_ascii_digit() {
-            return None;
-        }
-        value = value
-            .checked_mul(10)?
-            .checked_add((*digit - b'0') as usize)?;
-    }
-    Some(value)
+    let vars = number(vars)?;
+    let count = number(count)?;
+    Some((vars, count))
 }
 
-/// The literal that a word spells, or the end of a clause. A variable is at most the number of them.
-pub fn token_of(word: &[u8], vars: usize) -> Option<Token>
-    ensures { IfSome result (IsTokenBelow vars) }
+/// Takes one more line. The answer is false where it can't stand there.
+fn take_line(alloc: Global, draft: &mut Option<Draft>, line: &[u8]) -> Result<bool, Spent>
+    requires { IfSome draft.old (λ d. IsBelow d.cnf.vars d.clause.items) }
+    ensures takes { IfOk result (TakesLine line.now draft.old draft.new) }
+    ensures below { IfOk result (λ _. IfSome draft.new (λ d. IsBelow d.cnf.vars d.clause.items)) }
 {
-    let (positive, digits) = match word {
-        [b'-', digits @ ..] => (false, digits),
-        digits => (true, digits),
-    };
-    match number(digits)? {
-        0 => Some(Token::End),
-        name if name <= vars => Some(Token::Literal(Lit {
-            var: name - 1,
-            positive,
-        })),
+    if !is_content(line) {
+        return Ok(true);
+    }
+    match draft {
+        Some(known) => known.take_line(line),
+        None => match header(line) {
+            None => Ok(false),
+            Some((vars, missing)) => {
+                *draft = Some(Draft {
+                    cnf: Cnf::new(alloc, vars),
+                    missing,
+                    clause: Vec::new(alloc),
+                });
+                Ok(true)
+            }
+        },
+    }
+}
+
+/// The formula, where no clause is missing.
+fn finish(draft: Option<Draft>) -> Option<Cnf>
+    ensures { (text : List (List ℕ)) → AreRead text draft → MatchOption result (IsNoText text) (λ formula. IsTextOf formula text) }
+{
+    let draft = draft?;
+    match draft.missing {
+        0 => Some(draft.cnf),
         _ => None,
     }
 }
 
-/// The number of variables and of clauses that the header gives.
-pub fn header(line: &[u8]) -> Option<(usize, usize)> {
-    let mut words = line
-        .split(|byte| byte.is_ascii_whitespace())
-        .filter(|word| !word.is_empty());
-    if words.next()? != b"p".as_slice() || words.next()? != b"cnf".as_slice() {
-        return None;
-    }
-    let vars = number(words.next()?)?;
-    let clauses = number(words.next()?)?;
-    match words.next() {
-        None => Some((vars, clauses)),
-        Some(_) => None,
+/// What a file comes to whose last line has this number.
+fn ending(draft: Option<Draft>, count: usize) -> Reading
+    ensures { (front : List (List ℕ)) (line : List ℕ) → count ≡ length front + 1 → Begins front → AreRead (front ++ line ∷ []) draft → IsReadingOf (front ++ line ∷ []) result }
+{
+    match finish(draft) {
+        Some(cnf) => Reading::Formula(cnf),
+        None => Reading::Malformed(count),
     }
 }
 
-/// The formula that is being read.
-#[derive(Drop)]
-struct Draft {
-    cnf: Cnf,
-    /// How many clauses are still to come.
-    missing: usize,
-    /// The clause that has no end yet.
-    clause: Vec<Lit>,
-}
-
-impl Draft {
-    /// Reads the words of a line. The answer is false where one of them is wrong.
-    fn read_line(&mut self, line: &[u8]) -> Result<bool, Spent>
-        requires { IsBelow self.old.cnf.vars self.old.clause.items }
-        ensures { OnOk result (IsBelow self.new.cnf.vars self.new.clause.items) }
-    {
-        for word in line.split(|byte| byte.is_ascii_whitespace()) {
-            if word.is_empty() {
-                continue;
-            }
-            match token_of(word, self.cnf.vars()) {
-                None => return Ok(false),
-                Some(Token::Literal(lit)) => self.clause.push(lit)?,
-                Some(Token::End) => {
-                    if self.missing == 0 {
-                        return Ok(false);
-                    }
-                    self.missing -= 1;
-                    self.cnf.add(self.clause.as_slice())?;
-                    self.clause.clear();
-                }
-            }
+/// Reads a file of the DIMACS form: comments, the header `p cnf V C`, and then C clauses of literals, each ended
+/// by 0, over any lines. A line that begins with `c` is a comment wherever it stands.
+///
+/// `Malformed` comes exactly where the bytes are no such file, with the number of the first line with which none
+/// begins, or of the last line where the file ends too early; lines are counted from 1.
+///
+/// # Errors
+/// `Spent` where memory is wanting, and where `Cnf::add` says so.
+pub fn read(alloc: Global, bytes: &[u8]) -> Result<Reading, Spent>
+    ensures { IfOk result (IsReadingOf (lines bytes.now)) }
+{
+    let mut draft = None;
+    let mut text = bytes;
+    let mut count = 0;
+    loop {
+        let (line, after) = first_line(text);
+        count += 1;
+        if !take_line(alloc, &mut draft, line)? {
+            return Ok(Reading::Malformed(count));
         }
-        Ok(true)
-    }
-}
-
-/// Reads a file of the DIMACS form: comments, the header `p cnf V C`, and then C clauses, each ended by 0,
-/// over any lines.
-pub fn read(alloc: Global, bytes: &[u8]) -> Result<Reading, Spent> {
-    let mut draft: Option<Draft> = None;
-    let mut count = 0usize;
-    for line in bytes.split(|byte| *byte == b'\n') {
-        count = count.saturating_add(1);
-        if line.first() == Some(&b'c') || line.iter().all(|byte| byte.is_ascii_whitespace()) {
-            continue;
-        }
-        match &mut draft {
-            None => match header(line) {
-                None => return Ok(Reading::Malformed(count)),
-                Some((vars, missing)) => {
-                    draft = Some(Draft {
-                        cnf: Cnf::new(alloc, vars),
-                        missing,
-                        clause: Vec::new(alloc),
-                    });
-                }
-            },
-            Some(open) => {
-                if !open.read_line(line)? {
-                    return Ok(Reading::Malformed(count));
-                }
-            }
-        }
-    }
-    match draft {
-        Some(
-            Draft {
-                cnf,
-                missing: 0,
-                clause,
-            },
-        ) if clause.is_empty() => Ok(Reading::Formula(cnf)),
-        _ => Ok(Reading::Malformed(count)),
+        let Some(rest) = after else {
+            return Ok(ending(draft, count));
+        };
+        text = rest;
     }
 }

@@ -13,7 +13,7 @@ pub struct Report {
 }
 
 /// Appends the word of a variable's value.
-fn push_value(text: &mut String, number: usize, bit: bool) -> Result<(), Spent>
+pub fn push_value(text: &mut String, number: usize, bit: bool) -> Result<(), Spent>
     ensures { OnOk result (string_bytes text.new ≡ string_bytes text.old ++ value_word number bit) }
 {
     if bit {

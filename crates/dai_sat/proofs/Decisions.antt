@@ -1,10 +1,10 @@
 use Rattle.std.proofs.Common.{◌≡◌, ◌<◌, ◌≤◌, ◌+◌, ◌*◌, ◌/◌, ◌%◌, ◌==◌, ℕ, Bool, length, get_or, ap, sym, ◌∙◌, subst, arith, inl, inr}
 use Rattle.std.proofs.lemmas.Bool.{cases_lt}
-use Rattle.dai_sat.specs.declared.trail.Trail.{Trail}
-use Rattle.dai_sat.specs.Codes.{digit}
-use Rattle.dai_sat.specs.Trail.{value_in, code_at, place_of, IsDecision, IsFreeIn, IsMirror, Enters, KeepsDecisions, IsGuided, IsOrdered}
-use Rattle.dai_sat.proofs.Forces.{Points, enters_points}
-use Rattle.dai_sat.proofs.Encodings.{digit_lt, eqb_digit}
+use Rattle.dai_trail.specs.declared.trail.Trail.{Trail}
+use Rattle.dai_trail.specs.Codes.{digit}
+use Rattle.dai_trail.specs.Trail.{value_in, code_at, place_of, IsDecision, IsFreeIn, IsMirror, Enters, KeepsDecisions, IsGuided, IsOrdered}
+use Rattle.dai_trail.proofs.Forces.{Points, enters_points}
+use Rattle.dai_trail.proofs.Encodings.{digit_lt, eqb_digit}
 
 -- the variable of a code
 pub code_var : (code var : ℕ) (b : Bool) → code ≡ 2 * var + digit b → code / 2 ≡ var

@@ -1,15 +1,15 @@
 use Rattle.std.proofs.Common.{◌≡◌, ◌<◌, ◌≤◌, ◌+◌, ◌/◌, ◌%◌, ◌==◌, ℕ, zero, suc, Bool, true, false, List, [], ◌∷◌, length, get_or, map, refl, ap, sym, ◌∙◌, subst, arith, inl, inr}
 use Rattle.std.proofs.lemmas.Bool.{cases_eq, cases_order}
 use Rattle.std.proofs.lemmas.List.{get_or_default}
-use Rattle.dai_sat.specs.declared.trail.Trail.{Trail}
-use Rattle.dai_sat.specs.declared.trail.TheConstants.{DECISION}
-use Rattle.dai_sat.specs.declared.cnf.Lit.{Lit}
-use Rattle.dai_sat.specs.Formula.{Formula, IsLeastModelOf, AreMetBy, IsMetBy, value_at}
-use Rattle.dai_sat.specs.Codes.{digit, lit_of, Agrees}
-use Rattle.dai_sat.specs.Trail.{value_in, code_at, place_of, IsTrueIn, IsTrail, IsOrdered, IsForced, IsGuided, IsRefuted, IsFullModel, MeetsClauses, MissesClause}
-use Rattle.dai_sat.proofs.Mirrors.{in_range, true_small}
-use Rattle.dai_sat.proofs.Forces.{refuted_clause}
-use Rattle.dai_sat.proofs.Encodings.{eqb_digit, digit-eqb, agrees_met, clause_implied}
+use Rattle.dai_trail.specs.declared.trail.Trail.{Trail}
+use Rattle.dai_trail.specs.declared.trail.TheConstants.{DECISION}
+use Rattle.dai_trail.specs.declared.cnf.Lit.{Lit}
+use Rattle.dai_trail.specs.Formula.{Formula, IsLeastModelOf, AreMetBy, IsMetBy, value_at}
+use Rattle.dai_trail.specs.Codes.{digit, lit_of, Agrees}
+use Rattle.dai_trail.specs.Trail.{value_in, code_at, place_of, IsTrueIn, IsTrail, IsOrdered, IsForced, IsGuided, IsRefuted, IsFullModel, MeetsClauses, MissesClause}
+use Rattle.dai_trail.proofs.Mirrors.{in_range, true_small}
+use Rattle.dai_trail.proofs.Forces.{refuted_clause}
+use Rattle.dai_trail.proofs.Encodings.{eqb_digit, digit-eqb, agrees_met, clause_implied}
 
 pub digit_injective : (a b : Bool) → digit a ≡ digit b → a ≡ b
 digit_injective true true e = refl

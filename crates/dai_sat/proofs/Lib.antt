@@ -1,11 +1,3 @@
-pub mod FlatLists
-pub mod Ranks
-pub mod Mirrors
-pub mod Forces
-pub mod Resolutions
-pub mod Gathers
-pub mod Turns
-pub mod Encodings
 pub mod LeastModels
 pub mod Decisions
 pub mod Unders

@@ -1,10 +1,10 @@
 use Rattle.std.proofs.Common.{◌≡◌, ◌<◌, ◌≤◌, ◌+◌, ◌++◌, ◌∷◌, [], ℕ, Bool, List, Result, Ok, Err, length, sym, subst, arith}
 use Rattle.std.specs.Result.{OnOk, OnErr}
 use Rattle.std.proofs.lemmas.List.{get_or_append_left, length_push}
-use Rattle.dai_sat.specs.declared.cnf.Lit.{Lit}
-use Rattle.dai_sat.specs.declared.trail.Trail.{Trail}
-use Rattle.dai_sat.specs.declared.marks.Marks.{Marks}
-use Rattle.dai_sat.specs.Formula.{Formula, AreMetBy, IsMetBy, formula_of}
+use Rattle.dai_trail.specs.declared.cnf.Lit.{Lit}
+use Rattle.dai_trail.specs.declared.trail.Trail.{Trail}
+use Rattle.dai_trail.specs.declared.marks.Marks.{Marks}
+use Rattle.dai_trail.specs.Formula.{Formula, AreMetBy, IsMetBy, formula_of}
 use Rattle.dai_sat.specs.Under.{IsReady}
 
 -- what holds of a formula's solver holds of that of a formula whose models meet the first one

@@ -3,18 +3,17 @@ use Rattle.std.specs.List.{All, Contains}
 use Rattle.std.proofs.lemmas.Bool.{cases_lt}
 use Rattle.std.proofs.lemmas.List.{length-map, get_or_append_left, get_or_push, length_push, length-take-le}
 use Rattle.std.proofs.Math.Nat.{mul-le-mul_right}
-use Rattle.dai_sat.specs.declared.cnf.Lit.{Lit}
-use Rattle.dai_sat.specs.declared.trail.Trail.{Trail}
-use Rattle.dai_sat.specs.declared.marks.Marks.{Marks}
-use Rattle.dai_sat.specs.Formula.{Formula, AreMetBy, IsTrueAt}
-use Rattle.dai_sat.specs.Codes.{lit_of, Agrees}
-use Rattle.dai_sat.specs.Trail.{code_at, place_of, IsDecision, IsTrueIn, IsFalseIn, IsMirror, IsTrail, IsForced, KeepsDecisions, CutsTo, IsFullModel, rank_of}
-use Rattle.dai_sat.specs.Marks.{AgreesWithAll, MarksRefute, IsMarked}
+use Rattle.dai_trail.specs.declared.cnf.Lit.{Lit}
+use Rattle.dai_trail.specs.declared.trail.Trail.{Trail}
+use Rattle.dai_trail.specs.Formula.{Formula, AreMetBy, IsTrueAt}
+use Rattle.dai_trail.specs.Codes.{lit_of, Agrees}
+use Rattle.dai_trail.specs.Trail.{code_at, place_of, IsDecision, IsTrueIn, IsFalseIn, IsMirror, IsTrail, IsForced, KeepsDecisions, CutsTo, IsFullModel, rank_of}
+use Rattle.dai_trail.specs.Marks.{AgreesWithAll}
 use Rattle.dai_sat.specs.Under.{IsAsked, AreAskedBelow, AreDecisionsAsked, IsUnder, IsPast, IsWanted, AreNames, IsFailure}
-use Rattle.dai_sat.proofs.Mirrors.{mirror_le, true_small}
-use Rattle.dai_sat.proofs.Forces.{Points, keeps_cut, agrees_at, denied, lost_place}
-use Rattle.dai_sat.proofs.Ranks.{rank_le}
-use Rattle.dai_sat.proofs.Encodings.{agrees_lit, lit_agrees, get_or-map_lit}
+use Rattle.dai_trail.proofs.Mirrors.{mirror_le, true_small}
+use Rattle.dai_trail.proofs.Forces.{Points, keeps_cut, agrees_at, denied, lost_place}
+use Rattle.dai_trail.proofs.Ranks.{rank_le}
+use Rattle.dai_trail.proofs.Encodings.{agrees_lit, lit_agrees, get_or-map_lit}
 
 -- a step that keeps decisions keeps where the assumptions stand
 pub under_keeps : (asked : List ℕ) (floor : ℕ) (t t' : Trail) → IsUnder asked floor t → KeepsDecisions t t' → IsUnder asked floor t'
@@ -192,10 +191,6 @@ names_push t code names names' place x are e l is here = λ k kl.
           let at : length names ≡ k = omega (arith, ap length e) in
           inr (place, l, is, read ∙ get_or_push names x 0 k at ∙ here)
     ]
-
--- what is left of an analysis with no mark
-pub names_refute : (f : Formula) (t : Trail) (m : Marks) → MarksRefute f t m → ((i : ℕ) → i < t.len → IsMarked m (code_at t i / 2) → ⊥) → (bits : List Bool) → AreMetBy f bits → AgreesWithAll bits m.named.items → ⊥
-names_refute f t m refute none bits model named = refute.refutes bits model named (λ i il marked. absurd (none i il marked))
 
 product_falls : (a b k : ℕ) → a < b → a * k + k ≤ b * k
 product_falls a b k l = let le : a + 1 ≤ b = omega arith in let h : (a + 1) * k ≤ b * k = mul-le-mul_right k le in omega (arith, h)

@@ -1,36 +1,18 @@
-use Rattle.std.specs.Prelude.{◌≡◌, ◌<◌, ◌≤◌, ℕ, Bool, [], length}
+use Rattle.std.specs.Prelude.{◌<◌, ◌≤◌, ℕ, Bool, length}
 use Rattle.dai_sat.specs.declared.answer.Answer.{Answer}
 use Rattle.dai_sat.specs.declared.answer.Answer.TheVariants.{Model, Unsat}
-use Rattle.dai_sat.specs.declared.propagation.Look.{Look}
-use Rattle.dai_sat.specs.declared.propagation.Look.TheVariants.{Stays, Moved, Conflict}
-use Rattle.dai_sat.specs.declared.analysis.Resolved.{Resolved}
-use Rattle.dai_sat.specs.declared.analysis.Resolved.TheVariants.{Stuck, Refuted, At}
 use Rattle.dai_sat.specs.declared.least.Step.{Step}
 use Rattle.dai_sat.specs.declared.least.Step.TheVariants as step
 use Rattle.dai_sat.specs.declared.step.Move.{Move}
 use Rattle.dai_sat.specs.declared.step.Move.TheVariants as move
-use Rattle.dai_sat.specs.declared.trail.Trail.{Trail}
-use Rattle.dai_sat.specs.declared.marks.Marks.{Marks}
-use Rattle.dai_sat.specs.Formula.{Formula, IsLeastModelOf, IsUnsatisfiable, IsContradiction}
-use Rattle.dai_sat.specs.Trail.{IsRefuted, IsFullModel, IsOpenIn, value_in, rank_of}
-use Rattle.dai_sat.specs.Marks.{AreMarks}
+use Rattle.dai_trail.specs.declared.trail.Trail.{Trail}
+use Rattle.dai_trail.specs.Formula.{Formula, IsLeastModelOf, IsUnsatisfiable, IsContradiction}
+use Rattle.dai_trail.specs.Trail.{IsFullModel, IsOpenIn, value_in, rank_of}
 
 -- a model is the least one by the preferences, and none is answered only where there is none
 abbrev pub IsAnswerTo : Formula → (ℕ → Bool → Type 0) → Answer → Type 0
 IsAnswerTo formula prefers (Model bits) = IsLeastModelOf prefers formula bits.items
 IsAnswerTo formula prefers Unsat = IsUnsatisfiable formula
-
--- where the look at a clause found a conflict, no model makes each literal of the trail true
-abbrev pub RefutesOnConflict : Formula → Trail → Look → Type 0
-RefutesOnConflict formula t (Stays code) = Unit {0}
-RefutesOnConflict formula t Moved = Unit {0}
-RefutesOnConflict formula t Conflict = IsRefuted formula t
-
--- what is left of a conflict: nothing is known, or there is no model, or the marks refute the trail
-abbrev pub IsResolution : Formula → Trail → Marks → Resolved → Type 0
-IsResolution formula t m Stuck = Unit {0}
-IsResolution formula t m Refuted = IsContradiction formula
-IsResolution formula t m (At place) = (place < t.len) × AreMarks formula t m × (m.named.items ≡ [])
 
 -- what is known after a step: the rank fell, or the first free variable, a model, or that there is none
 abbrev pub IsStepOf : Formula → Trail → Trail → Step → Type 0

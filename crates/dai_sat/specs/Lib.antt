@@ -1,8 +1,3 @@
-pub mod Formula
-pub mod Lists
-pub mod Codes
-pub mod Rank
-pub mod Trail
-pub mod Marks
 pub mod Answers
 pub mod Under
+pub mod Heaps

@@ -4,13 +4,13 @@ use Rattle.dai_sat.specs.declared.answer.Outcome.{Outcome}
 use Rattle.dai_sat.specs.declared.answer.Outcome.TheVariants.{Model, Unsat}
 use Rattle.dai_sat.specs.declared.question.Found.{Found}
 use Rattle.dai_sat.specs.declared.question.Found.TheVariants as found
-use Rattle.dai_sat.specs.declared.cnf.Lit.{Lit}
-use Rattle.dai_sat.specs.declared.trail.Trail.{Trail}
-use Rattle.dai_sat.specs.declared.marks.Marks.{Marks}
-use Rattle.dai_sat.specs.Formula.{Formula, IsModelOf, AreMetBy, IsTrueAt, IsContradiction}
-use Rattle.dai_sat.specs.Codes.{lit_of}
-use Rattle.dai_sat.specs.Trail.{IsDecision, IsTrueIn, IsSound, code_at, rank_of}
-use Rattle.dai_sat.specs.Marks.{AreStamps, AgreesWithAll}
+use Rattle.dai_trail.specs.declared.cnf.Lit.{Lit}
+use Rattle.dai_trail.specs.declared.trail.Trail.{Trail}
+use Rattle.dai_trail.specs.declared.marks.Marks.{Marks}
+use Rattle.dai_trail.specs.Formula.{Formula, IsModelOf, AreMetBy, IsTrueAt, IsContradiction}
+use Rattle.dai_trail.specs.Codes.{lit_of}
+use Rattle.dai_trail.specs.Trail.{IsDecision, IsTrueIn, IsSound, code_at, rank_of}
+use Rattle.dai_trail.specs.Marks.{AreStamps, AgreesWithAll}
 
 -- a literal is one of the assumptions
 abbrev pub IsAsked : List ℕ → ℕ → Type 0

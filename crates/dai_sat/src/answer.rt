@@ -1,4 +1,4 @@
-use crate::cnf::Lit;
+use dai_trail::cnf::Lit;
 
 /// What a solver answers.
 #[derive(Debug, Drop, PartialEq, Eq)]

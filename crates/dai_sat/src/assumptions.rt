@@ -1,12 +1,12 @@
 ghost use Rattle.std.specs.Prelude.{◌≡◌, ◌<◌, ◌≤◌, ℕ, false, length, IsTrue, MatchOption, slice_index};
-ghost use Rattle.dai_sat.specs.Trail.{IsTrail, IsTrueIn, IsDecision};
+ghost use Rattle.dai_trail.specs.Trail.{IsTrail, IsTrueIn, IsDecision};
 ghost use Rattle.dai_sat.specs.Under.{IsDecidedFrom, IsUnder, IsPast, IsWanted};
 
-use crate::trail::Trail;
+use dai_trail::trail::Trail;
 
 /// The assumptions of a question, and how far they stand on the trail.
 #[derive(Drop)]
-pub struct Asked {
+pub(crate) struct Asked {
     /// The assumptions as numbers.
     pub codes: Vec<u32>,
     /// Each decision below this place is an assumption, and where one stands behind it, all assumptions
@@ -52,7 +52,7 @@ fn unmet(trail: &Trail, codes: &[u32], from: usize) -> Option<usize>
 
 impl Asked {
     /// The number of an assumption that is not true; none where all are true.
-    pub fn next(&mut self, trail: &Trail) -> Option<usize>
+    pub(crate) fn next(&mut self, trail: &Trail) -> Option<usize>
         requires trail { IsTrail trail.now }
         requires under { IsUnder self.old.codes.items self.old.floor trail.now }
         ensures codes { self.new.codes.items ≡ self.old.codes.items }

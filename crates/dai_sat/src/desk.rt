@@ -1,15 +1,17 @@
 ghost use Rattle.std.specs.Prelude.{◌≡◌};
-ghost use Rattle.dai_sat.specs.Marks.{AreStamps};
+ghost use Rattle.dai_trail.specs.Marks.{AreStamps};
 
-use crate::marks::Marks;
 use crate::order::Order;
-use crate::uses::Uses;
-use crate::watches::Watches;
+use dai_base::Spent;
+use dai_trail::marks::Marks;
+use dai_trail::trail::Trail;
+use dai_trail::uses::Uses;
+use dai_trail::watches::Watches;
 use std::alloc::Global;
 
 /// What a search keeps beside the trail and the clauses. But for the marks it only guides.
 #[derive(Drop)]
-pub struct Desk {
+pub(crate) struct Desk {
     pub watches: Watches,
     pub marks: Marks,
     pub uses: Uses,
@@ -24,7 +26,7 @@ pub struct Desk {
 
 impl Desk {
     /// The tables over no variable. Takes no memory.
-    pub fn new(alloc: Global) -> Desk
+    pub(crate) fn new(alloc: Global) -> Desk
         ensures { AreStamps result.marks 0 }
     {
         Desk {
@@ -38,17 +40,33 @@ impl Desk {
         }
     }
 
-    /// The place of the last decision.
-    pub fn last_level(&self) -> usize {
-        self.levels.last().copied().unwrap_or(0)
+    /// Takes the variables that got a value since the last decision back.
+    pub(crate) fn release_last(&mut self, trail: &Trail) -> Result<(), Spent>
+        ensures { self.new.marks ≡ self.old.marks }
+    {
+        if let Some(start) = self.levels.last().copied() {
+            self.order.release(trail, start)?;
+        }
+        Ok(())
+    }
+
+    /// Takes the variables that got a value since the first decision back, and forgets the decisions.
+    pub(crate) fn release_all(&mut self, trail: &Trail) -> Result<(), Spent>
+        ensures { self.new.marks ≡ self.old.marks }
+    {
+        if let Some(start) = self.levels.first().copied() {
+            self.order.release(trail, start)?;
+        }
+        self.levels.clear();
+        Ok(())
     }
 
     /// Takes the decisions that are gone off the list.
-    pub fn drop_levels(&mut self, len: usize)
+    pub(crate) fn drop_levels(&mut self, len: usize)
         ensures { self.new.marks ≡ self.old.marks }
     {
         while let Some(last) = self.levels.last()
-            && last.saturating_add(1) >= len
+            && (*last >= len || *last + 1 == len)
         {
             self.levels.pop();
         }

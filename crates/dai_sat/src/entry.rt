@@ -1,25 +1,27 @@
 ghost use Rattle.std.specs.Prelude.{◌≡◌, ◌<◌, ◌≤◌, ◌^◌, ℕ, length, IsTrue, IfOk, OnOk};
-ghost use Rattle.dai_sat.specs.Formula.{IsContradiction};
-ghost use Rattle.dai_sat.specs.Trail.{IsSound, KeepsDecisions, IsRefuted, IsDecision};
-ghost use Rattle.dai_sat.specs.Marks.{AreStamps};
+ghost use Rattle.dai_trail.specs.Formula.{IsContradiction};
+ghost use Rattle.dai_trail.specs.Trail.{IsSound, KeepsDecisions, IsRefuted, IsDecision};
+ghost use Rattle.dai_trail.specs.Marks.{AreStamps};
 
-use crate::cnf::Cnf;
 use crate::desk::Desk;
-use crate::lists::Lists;
-use crate::propagation::{follow, open_literal};
-use crate::trail::Trail;
-use crate::watches::Watches;
 use dai_base::Spent;
+use dai_trail::cnf::Cnf;
+use dai_trail::lists::Lists;
+use dai_trail::propagation::{follow, open_literal};
+use dai_trail::trail::Trail;
+use dai_trail::watches::Watches;
 use std::alloc::Global;
 
 /// The clauses of a formula that the solver has names for.
 const MOST_CLAUSES: usize = 0x7fff_ffff;
 
 /// Two literals of a clause to watch, which are not false where there are such. It only guides.
-fn watched(trail: &Trail, codes: &[u32]) -> (u32, u32) {
+fn watched(trail: &Trail, codes: &[u32]) -> (u32, u32)
+    requires { 0 < length codes.now }
+{
     let first = match codes.iter().find(|code| !trail.is_false(**code)) {
         Some(code) => *code,
-        None => codes.first().copied().unwrap_or(0),
+        None => codes[0],
     };
     match codes
         .iter()
@@ -54,11 +56,11 @@ fn enter(
     ensures conflict { IfOk result (λ r. IsTrue r → IsRefuted cnf.now trail.new) }
 {
     let codes = cnf.clause(number);
-    let (first, second) = watched(trail, codes);
-    watches.enter_given(codes, first, second)?;
     if codes.is_empty() {
         return Ok(true);
     }
+    let (first, second) = watched(trail, codes);
+    watches.enter_given(codes, first, second)?;
     let None = open_literal(trail, codes, first, 0) else {
         return Ok(false);
     };
@@ -91,7 +93,7 @@ fn enter_all(
 
 /// Goes back to before the first decision, makes room for new variables, and enters new clauses. The answer is
 /// true where the formula has no model.
-pub fn prepare(
+pub(crate) fn prepare(
     alloc: Global,
     cnf: &Cnf,
     learned: &Lists<u32>,
@@ -108,9 +110,7 @@ pub fn prepare(
     ensures none { IfOk result (λ r. IsTrue r → IsContradiction cnf.now) }
 {
     let vars = cnf.vars();
-    let start = desk.levels.first().copied().unwrap_or(trail.len);
-    desk.order.release(trail, start)?;
-    desk.levels.clear();
+    desk.release_all(trail)?;
     trail.restart();
     trail.fit(vars)?;
     desk.watches.fit(alloc, vars)?;

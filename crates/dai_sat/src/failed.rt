@@ -1,17 +1,17 @@
 ghost use Rattle.std.specs.Prelude.{◌≡◌, ◌<◌, map, length, IsTrue, IfOk, OnOk, slice_index};
-ghost use Rattle.dai_sat.specs.Codes.{lit_of as coded_literal};
-ghost use Rattle.dai_sat.specs.Trail.{IsSound, IsFalseIn};
-ghost use Rattle.dai_sat.specs.Marks.{AreStamps, AreMarks};
+ghost use Rattle.dai_trail.specs.Codes.{lit_of as coded_literal};
+ghost use Rattle.dai_trail.specs.Trail.{IsSound, IsFalseIn};
+ghost use Rattle.dai_trail.specs.Marks.{AreStamps, AreMarks};
 ghost use Rattle.dai_sat.specs.Under.{AreDecisionsAsked, AreNames, AreFailed, IsFailure};
 
-use crate::analysis::resolve_at;
-use crate::cnf::{Cnf, Lit};
-use crate::codes::lit_of;
-use crate::lists::Lists;
-use crate::marks::Marks;
-use crate::trail::{DECISION, Trail};
-use crate::uses::Uses;
 use dai_base::Spent;
+use dai_trail::analysis::resolve_at;
+use dai_trail::cnf::{Cnf, Lit};
+use dai_trail::codes::lit_of;
+use dai_trail::lists::Lists;
+use dai_trail::marks::Marks;
+use dai_trail::trail::{DECISION, Trail};
+use dai_trail::uses::Uses;
 use std::alloc::Global;
 
 /// Names the false assumption, and marks its variable.
@@ -104,7 +104,7 @@ fn lits_of(alloc: Global, codes: &[u32]) -> Result<Vec<Lit>, Spent>
 }
 
 /// Assumptions that no model of the formula meets, where one of them is false by decisions on others.
-pub fn failed(
+pub(crate) fn failed(
     alloc: Global,
     cnf: &Cnf,
     learned: &Lists<u32>,

@@ -1,19 +1,19 @@
 ghost use Rattle.std.specs.Prelude.{◌≡◌, ◌<◌, ◌≤◌, ℕ, length, IfOk, OnOk};
-ghost use Rattle.dai_sat.specs.Trail.{IsSound, KeepsDecisions, IsGuided, IsOrdered, value_in, rank_of};
-ghost use Rattle.dai_sat.specs.Marks.{AreStamps};
+ghost use Rattle.dai_trail.specs.Trail.{IsSound, KeepsDecisions, IsGuided, IsOrdered, value_in, rank_of};
+ghost use Rattle.dai_trail.specs.Marks.{AreStamps};
 ghost use Rattle.dai_sat.specs.Answers.{IsAnswerTo, IsStepOf};
 
 use crate::answer::Answer;
-use crate::cnf::Cnf;
-use crate::codes::{MOST_VARS, code_of};
 use crate::desk::Desk;
 use crate::entry::prepare;
 use crate::guide::Guide;
-use crate::lists::Lists;
 use crate::model::full_model;
 use crate::step::{Move, advance, decide, turn};
-use crate::trail::Trail;
 use dai_base::Spent;
+use dai_trail::cnf::Cnf;
+use dai_trail::codes::{MOST_VARS, code_of};
+use dai_trail::lists::Lists;
+use dai_trail::trail::Trail;
 use std::alloc::Global;
 
 /// Gives the first free variable its preferred value.

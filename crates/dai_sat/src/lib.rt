@@ -3,36 +3,24 @@
 //! keeps what it learned. Neither has a budget.
 #![tactic(auto)]
 
-mod analysis;
 mod answer;
 mod assumptions;
-mod backjump;
-mod clauses;
-mod cnf;
-mod codes;
 mod desk;
 mod entry;
 mod failed;
 mod guide;
 mod least;
-mod lists;
-mod marks;
-mod minimize;
 mod model;
 mod order;
 mod pace;
-mod propagation;
 mod question;
 mod solver;
 mod step;
 #[cfg(test)]
 mod tests;
-mod trail;
-mod uses;
-mod watches;
 
 pub use answer::{Answer, Outcome};
-pub use cnf::{Cnf, Lit};
+pub use dai_trail::{Cnf, Lit};
 pub use guide::Guide;
 pub use least::{Solved, solve, solve_counted};
 pub use solver::Solver;

@@ -1,11 +1,11 @@
 ghost use Rattle.std.specs.Prelude.{◌≡◌, ◌<◌, ◌==◌, ℕ, map, length, IsTrue, IfOk, MatchOption, ◌↔◌};
 ghost use Rattle.std.specs.List.{Any};
-ghost use Rattle.dai_sat.specs.Trail.{IsSound, IsTrueIn, IsRefuted, IsFullModel, MeetsClauses, MissesClause, value_in};
+ghost use Rattle.dai_trail.specs.Trail.{IsSound, IsTrueIn, IsRefuted, IsFullModel, MeetsClauses, MissesClause, value_in};
 
-use crate::cnf::Cnf;
-use crate::lists::Lists;
-use crate::trail::Trail;
 use dai_base::Spent;
+use dai_trail::cnf::Cnf;
+use dai_trail::lists::Lists;
+use dai_trail::trail::Trail;
 use std::alloc::Global;
 
 /// The values of all variables.
@@ -39,7 +39,7 @@ fn first_unmet(cnf: &Cnf, trail: &Trail) -> Option<usize>
 }
 
 /// The model that a trail of all variables is, where each clause is met.
-pub fn full_model(
+pub(crate) fn full_model(
     alloc: Global,
     cnf: &Cnf,
     learned: &Lists<u32>,

@@ -1,12 +1,12 @@
 ghost use Rattle.std.specs.Prelude.{◌≡◌, ◌<◌, ◌≤◌, ℕ, OnOk, slice_index};
-ghost use Rattle.dai_sat.specs.Trail.{IsSound, ForgetsReasons, KeepsDecisions};
+ghost use Rattle.dai_trail.specs.Trail.{IsSound, ForgetsReasons, KeepsDecisions};
 ghost use Rattle.dai_sat.specs.Under.{effort};
 
-use crate::cnf::Cnf;
 use crate::desk::Desk;
-use crate::lists::Lists;
-use crate::trail::{FLIPPED, Trail};
 use dai_base::Spent;
+use dai_trail::cnf::Cnf;
+use dai_trail::lists::Lists;
+use dai_trail::trail::{FLIPPED, Trail};
 use std::alloc::Global;
 
 /// The conflicts of the shortest span without a restart.
@@ -15,7 +15,7 @@ const UNIT: u64 = 100;
 /// How long the search goes on without a restart. The spans are those of Luby, Sinclair and Zuckerman
 /// (1993), by Knuth's reluctant doubling.
 #[derive(Drop)]
-pub struct Pace {
+pub(crate) struct Pace {
     /// How many restarts there were. There is none after the last number.
     pub restarts: u64,
     /// The conflicts that are left of the span.
@@ -27,7 +27,7 @@ pub struct Pace {
 
 impl Pace {
     /// The first span.
-    pub fn new() -> Pace
+    pub(crate) fn new() -> Pace
         ensures { result.restarts ≡ 0 }
     {
         Pace {
@@ -86,7 +86,7 @@ fn sweep(
 
 /// Where there are many learned clauses, lets go of those that were used least of late. The trail has no
 /// decision then, so that no reason is asked for any more.
-pub fn let_go(
+pub(crate) fn let_go(
     alloc: Global,
     cnf: &Cnf,
     learned: &mut Lists<u32>,
@@ -108,7 +108,7 @@ pub fn let_go(
 
 /// After a conflict: where the span is over, goes back to before the first decision, and lets learned
 /// clauses go where there are many.
-pub fn rest(
+pub(crate) fn rest(
     alloc: Global,
     cnf: &Cnf,
     learned: &mut Lists<u32>,
@@ -128,9 +128,7 @@ pub fn rest(
     }
     pace.restarts += 1;
     pace.next_span();
-    let start = desk.levels.first().copied().unwrap_or(trail.len);
-    desk.order.release(trail, start)?;
-    desk.levels.clear();
+    desk.release_all(trail)?;
     trail.restart();
     let_go(alloc, cnf, learned, desk, trail)?;
     Ok(())

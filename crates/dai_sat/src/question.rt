@@ -1,36 +1,40 @@
 ghost use Rattle.std.specs.Prelude.{◌≡◌, ◌<◌, ◌≤◌, ℕ, map, length, IsTrue, IfOk, OnOk, MatchOption};
-ghost use Rattle.dai_sat.specs.Formula.{IsBelow, IsContradiction};
-ghost use Rattle.dai_sat.specs.Codes.{code_of as literal_code};
-ghost use Rattle.dai_sat.specs.Trail.{IsTrail, IsSound, IsOpenIn, CutsTo, value_in};
-ghost use Rattle.dai_sat.specs.Marks.{AreStamps};
+ghost use Rattle.dai_trail.specs.Formula.{IsBelow, IsContradiction};
+ghost use Rattle.dai_trail.specs.Codes.{code_of as literal_code};
+ghost use Rattle.dai_trail.specs.Trail.{IsTrail, IsSound, IsOpenIn, CutsTo, value_in};
+ghost use Rattle.dai_trail.specs.Marks.{AreStamps};
 ghost use Rattle.dai_sat.specs.Under.{IsUnder, IsPast, IsReady, IsChoiceOf, IsFoundFor, IsOutcomeOf, AreAskedOf};
 
 use crate::answer::Outcome;
 use crate::assumptions::Asked;
-use crate::cnf::{Cnf, Lit};
-use crate::codes::{MOST_VARS, code_of, encode};
 use crate::desk::Desk;
 use crate::entry::prepare;
 use crate::failed::failed;
-use crate::lists::Lists;
 use crate::model::full_model;
 use crate::order::Order;
 use crate::pace::{Pace, let_go, rest};
 use crate::step::{Move, advance, decide, turn};
-use crate::trail::Trail;
 use dai_base::Spent;
+use dai_trail::cnf::{Cnf, Lit};
+use dai_trail::codes::{MOST_VARS, code_of, encode};
+use dai_trail::lists::Lists;
+use dai_trail::trail::Trail;
 use std::alloc::Global;
 
-/// A free variable, the most active one where the order has one.
-fn open_var(order: &mut Order, trail: &mut Trail) -> Option<usize>
+/// A free variable and a value for it: the most active one where the order has one, with the value that it had
+/// last, and else the first, as false.
+fn open_var(order: &mut Order, trail: &mut Trail) -> Option<(usize, bool)>
     requires { IsTrail trail.old }
     ensures trail { IsTrail trail.new }
     ensures same { CutsTo trail.old trail.new trail.old.len }
-    ensures answer { MatchOption result ((u : ℕ) → u < length trail.old.values.items → value_in trail.new u < 2) (IsOpenIn trail.new) }
+    ensures answer { MatchOption result ((u : ℕ) → u < length trail.old.values.items → value_in trail.new u < 2) (λ choice. IsOpenIn trail.new choice.0) }
 {
     match order.next(trail) {
-        Some(var) => Some(var),
-        None => trail.first_free(),
+        Some(choice) => Some(choice),
+        None => match trail.first_free() {
+            Some(var) => Some((var, false)),
+            None => None,
+        },
     }
 }
 
@@ -64,8 +68,7 @@ fn choose_var(
     ensures room { OnOk result (length trail.new.values.items ≡ length trail.old.values.items) }
     ensures answer { IfOk result (IsChoiceOf cnf.now asked.now.codes.items asked.now.floor trail.old trail.new) }
 {
-    if let Some(var) = open_var(&mut desk.order, trail) {
-        let phase = desk.order.phase(var);
+    if let Some((var, phase)) = open_var(&mut desk.order, trail) {
         decide(cnf, learned, &mut desk.levels, trail, code_of(var, phase))?;
         return Ok(None);
     }
@@ -182,7 +185,7 @@ fn outcome_of(
 }
 
 /// Answers a question: see `Solver::solve_under`.
-pub fn answer_under(
+pub(crate) fn answer_under(
     alloc: Global,
     cnf: &Cnf,
     learned: &mut Lists<u32>,

@@ -1,14 +1,14 @@
 ghost use Rattle.std.specs.Prelude.{◌≡◌, ◌+◌, ◌<◌, ◌≤◌, ◌^◌, ◌++◌, ◌∷◌, [], IfOk, OnOk, OnErr};
-ghost use Rattle.dai_sat.specs.Formula.{IsBelow, formula_of};
+ghost use Rattle.dai_trail.specs.Formula.{IsBelow, formula_of};
 ghost use Rattle.dai_sat.specs.Under.{IsOutcomeOf};
 
 use crate::answer::Outcome;
-use crate::cnf::{Cnf, Lit};
 use crate::desk::Desk;
-use crate::lists::Lists;
 use crate::question::answer_under;
-use crate::trail::Trail;
 use dai_base::Spent;
+use dai_trail::cnf::{Cnf, Lit};
+use dai_trail::lists::Lists;
+use dai_trail::trail::Trail;
 use std::alloc::Global;
 use std::marker::Model;
 
@@ -26,7 +26,7 @@ pub struct Solver {
 }
 
 impl Model for Solver {
-    ghost use Rattle.dai_sat.specs.Formula.{Formula};
+    ghost use Rattle.dai_trail.specs.Formula.{Formula};
     ghost use Rattle.dai_sat.specs.Under.{IsReady};
 
     ghost Value = { Formula };

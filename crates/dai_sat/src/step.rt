@@ -1,22 +1,22 @@
 ghost use Rattle.std.specs.Prelude.{◌≡◌, ◌<◌, ◌≤◌, [], length, IsTrue, IfOk, OnOk, false};
-ghost use Rattle.dai_sat.specs.Formula.{IsContradiction};
-ghost use Rattle.dai_sat.specs.Trail.{IsSound, KeepsDecisions, IsRefuted, IsFreeIn, Enters, rank_of};
-ghost use Rattle.dai_sat.specs.Marks.{AreStamps, AreMarks};
+ghost use Rattle.dai_trail.specs.Formula.{IsContradiction};
+ghost use Rattle.dai_trail.specs.Trail.{IsSound, KeepsDecisions, IsRefuted, IsFreeIn, Enters, rank_of};
+ghost use Rattle.dai_trail.specs.Marks.{AreStamps, AreMarks};
 ghost use Rattle.dai_sat.specs.Answers.{IsMoveOf};
 
-use crate::analysis::{Resolved, learn, resolve};
-use crate::backjump::{flip, is_unit_at, jump, target_of};
-use crate::cnf::Cnf;
 use crate::desk::Desk;
-use crate::lists::Lists;
-use crate::minimize::minimize;
-use crate::propagation::propagate;
-use crate::trail::{DECISION, Trail};
 use dai_base::Spent;
+use dai_trail::analysis::{Resolved, learn, resolve};
+use dai_trail::backjump::{flip, is_unit_at, jump, target_of};
+use dai_trail::cnf::Cnf;
+use dai_trail::lists::Lists;
+use dai_trail::minimize::minimize;
+use dai_trail::propagation::propagate;
+use dai_trail::trail::{DECISION, Trail};
 use std::alloc::Global;
 
 /// What a step of the search came to.
-pub enum Move {
+pub(crate) enum Move {
     /// A conflict was answered.
     Again,
     /// Nothing follows any more.
@@ -27,7 +27,7 @@ pub enum Move {
 
 /// Turns the last decision round, and lets go of the variables that came after it. The answer is false where
 /// the formula has no model.
-pub fn turn(
+pub(crate) fn turn(
     cnf: &Cnf,
     learned: &Lists<u32>,
     desk: &mut Desk,
@@ -41,8 +41,7 @@ pub fn turn(
     ensures rank { IfOk result (λ r. IsTrue r → rank_of trail.new < rank_of trail.old) }
     ensures none { IfOk result (λ r. (r ≡ false) → IsContradiction cnf.now) }
 {
-    let start = desk.last_level();
-    desk.order.release(trail, start)?;
+    desk.release_last(trail)?;
     Ok(flip(cnf, learned, trail))
 }
 
@@ -98,7 +97,9 @@ fn recover(
     ensures rank { IfOk result (λ r. IsTrue r → rank_of trail.new < rank_of trail.old) }
     ensures none { IfOk result (λ r. (r ≡ false) → IsContradiction cnf.now) }
 {
-    let start = desk.last_level();
+    let Some(start) = desk.levels.last().copied() else {
+        return turn(cnf, learned, desk, trail);
+    };
     let left = resolve(
         cnf,
         learned,
@@ -117,7 +118,7 @@ fn recover(
 }
 
 /// Propagates, and answers a conflict where there is one.
-pub fn advance(
+pub(crate) fn advance(
     alloc: Global,
     cnf: &Cnf,
     learned: &mut Lists<u32>,
@@ -146,7 +147,7 @@ pub fn advance(
 }
 
 /// Makes a free literal true as a decision.
-pub fn decide(
+pub(crate) fn decide(
     cnf: &Cnf,
     learned: &Lists<u32>,
     levels: &mut Vec<usize>,

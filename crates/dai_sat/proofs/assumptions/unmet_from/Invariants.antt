@@ -1,5 +1,5 @@
 use Rattle.std.proofs.Common.{◌<◌, ◌≤◌, ℕ, get_or}
-use Rattle.dai_sat.specs.Trail.{IsTrueIn}
+use Rattle.dai_trail.specs.Trail.{IsTrueIn}
 use Rattle.dai_sat.proofs.assumptions.unmet_from.Given as goal
 
 abbrev pub invariant-loop-number : goal.invariant-loop-number

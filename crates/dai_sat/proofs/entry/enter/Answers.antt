@@ -1,7 +1,7 @@
 use Rattle.std.proofs.Common.{arith, ◌≡◌, length}
 use Rattle.std.proofs.lemmas.Grind.{common_steps}
-use Rattle.dai_sat.proofs.Encodings.{clause_implied}
-use Rattle.dai_sat.proofs.Forces.{refuted_clause}
+use Rattle.dai_trail.proofs.Encodings.{clause_implied}
+use Rattle.dai_trail.proofs.Forces.{refuted_clause}
 use Rattle.dai_sat.proofs.entry.enter.Goals as goal
 
 pub returns-then-is_empty-clause-conflict : goal.returns-then-is_empty-clause-conflict

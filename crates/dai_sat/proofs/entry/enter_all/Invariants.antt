@@ -1,4 +1,4 @@
-use Rattle.dai_sat.specs.Trail.{IsSound, KeepsDecisions}
+use Rattle.dai_trail.specs.Trail.{IsSound, KeepsDecisions}
 use Rattle.dai_sat.proofs.entry.enter_all.Given as goal
 
 abbrev pub invariant-loop-number : goal.invariant-loop-number

@@ -1,6 +1,6 @@
 use Rattle.std.proofs.Common.{arith, ◌<◌, sym, ◌∙◌}
-use Rattle.dai_sat.proofs.Forces.{forced_widens, forced_cut}
-use Rattle.dai_sat.proofs.Turns.{none_contradiction}
+use Rattle.dai_trail.proofs.Forces.{forced_widens, forced_cut}
+use Rattle.dai_trail.proofs.Turns.{none_contradiction}
 use Rattle.dai_sat.proofs.entry.prepare.Goals as goal
 
 pub enter_all-requires : goal.enter_all-requires

@@ -1,5 +1,5 @@
 use Rattle.std.proofs.Common.{◌≡◌, ◌++◌, ◌∷◌, [], ap, ◌∙◌, refl}
-use Rattle.dai_sat.proofs.Resolutions.{marks_fail}
+use Rattle.dai_trail.proofs.Resolutions.{marks_fail}
 use Rattle.dai_sat.proofs.failed.begin.Goals as goal
 
 pub returns-clause-marks : goal.returns-clause-marks

@@ -1,8 +1,8 @@
 use Rattle.std.proofs.Common.{arith, ◌<◌, ℕ, length, sym, ◌∙◌, subst}
 use Rattle.std.proofs.lemmas.List.{get_or_read}
-use Rattle.dai_sat.specs.Marks.{AreStamps}
-use Rattle.dai_sat.proofs.Mirrors.{mirror_le}
-use Rattle.dai_sat.proofs.Resolutions.{marks_name, names_listed}
+use Rattle.dai_trail.specs.Marks.{AreStamps}
+use Rattle.dai_trail.proofs.Mirrors.{mirror_le}
+use Rattle.dai_trail.proofs.Resolutions.{marks_name, names_listed}
 use Rattle.dai_sat.proofs.Unders.{names_push}
 use Rattle.dai_sat.proofs.failed.explain.Goals as goal
 

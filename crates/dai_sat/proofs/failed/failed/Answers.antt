@@ -1,8 +1,8 @@
 use Rattle.std.proofs.Common.{◌≡◌, refl, ap, ◌∙◌, map, Vec, Global}
-use Rattle.dai_sat.specs.declared.cnf.Lit.{Lit}
-use Rattle.dai_sat.specs.Codes.{lit_of}
+use Rattle.dai_trail.specs.declared.cnf.Lit.{Lit}
+use Rattle.dai_trail.specs.Codes.{lit_of}
 use Rattle.dai_sat.specs.Under.{IsFailure}
-use Rattle.dai_sat.proofs.Resolutions.{if_ok_map}
+use Rattle.dai_trail.proofs.Resolutions.{if_ok_map}
 use Rattle.dai_sat.proofs.Unders.{failure_of, names_asked, all_fail}
 use Rattle.dai_sat.proofs.failed.failed.Goals as goal
 

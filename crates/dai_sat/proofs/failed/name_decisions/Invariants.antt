@@ -1,5 +1,5 @@
 use Rattle.std.proofs.Common.{◌≤◌}
-use Rattle.dai_sat.specs.Marks.{AreMarks}
+use Rattle.dai_trail.specs.Marks.{AreMarks}
 use Rattle.dai_sat.specs.Under.{AreNames}
 use Rattle.dai_sat.proofs.failed.name_decisions.Given as goal
 

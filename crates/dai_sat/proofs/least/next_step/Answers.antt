@@ -1,5 +1,5 @@
 use Rattle.std.proofs.Common.{arith, ◌≤◌}
-use Rattle.dai_sat.proofs.Forces.{sound_cut}
+use Rattle.dai_trail.proofs.Forces.{sound_cut}
 use Rattle.dai_sat.proofs.least.next_step.Goals as goal
 
 pub returns-in-Some-clause-sound : goal.returns-in-Some-clause-sound

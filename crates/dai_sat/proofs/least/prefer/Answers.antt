@@ -1,6 +1,6 @@
 use Rattle.std.proofs.Common.{arith, ◌<◌}
-use Rattle.dai_sat.specs.declared.trail.TheConstants.{DECISION}
-use Rattle.dai_sat.proofs.Forces.{enters_points}
+use Rattle.dai_trail.specs.declared.trail.TheConstants.{DECISION}
+use Rattle.dai_trail.proofs.Forces.{enters_points}
 use Rattle.dai_sat.proofs.Decisions.{code_var, code_free, decide_guided, ordered_points}
 use Rattle.dai_sat.proofs.least.prefer.Goals as goal
 

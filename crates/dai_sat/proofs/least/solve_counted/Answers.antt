@@ -1,8 +1,8 @@
 use Rattle.std.proofs.Common.{ℕ, subst, ◌∙◌}
 use Rattle.dai_sat.specs.declared.least.Step.{Step}
 use Rattle.dai_sat.specs.Answers.{IsStepOf}
-use Rattle.dai_sat.specs.Marks.{AreStamps}
-use Rattle.dai_sat.proofs.Forces.{guided_keeps}
+use Rattle.dai_trail.specs.Marks.{AreStamps}
+use Rattle.dai_trail.proofs.Forces.{guided_keeps}
 use Rattle.dai_sat.proofs.Decisions.{ordered_keeps}
 use Rattle.dai_sat.proofs.LeastModels.{least_model}
 use Rattle.dai_sat.proofs.least.solve_counted.Goals as goal

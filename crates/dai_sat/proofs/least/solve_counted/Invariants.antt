@@ -1,6 +1,6 @@
 use Rattle.std.proofs.Common.{◌≡◌, length}
-use Rattle.dai_sat.specs.Trail.{IsSound, IsGuided, IsOrdered, rank_of}
-use Rattle.dai_sat.specs.Marks.{AreStamps}
+use Rattle.dai_trail.specs.Trail.{IsSound, IsGuided, IsOrdered, rank_of}
+use Rattle.dai_trail.specs.Marks.{AreStamps}
 use Rattle.dai_sat.proofs.least.solve_counted.Given as goal
 
 abbrev pub invariant-loop-desk : goal.invariant-loop-desk

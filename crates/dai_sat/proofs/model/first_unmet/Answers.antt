@@ -1,7 +1,7 @@
 use Rattle.std.proofs.Common.{ℕ, List, below_more, refl}
 use Rattle.std.specs.List.{Any}
-use Rattle.dai_sat.specs.Codes.{AreCodesOf}
-use Rattle.dai_sat.specs.Trail.{IsTrueIn}
+use Rattle.dai_trail.specs.Codes.{AreCodesOf}
+use Rattle.dai_trail.specs.Trail.{IsTrueIn}
 use Rattle.dai_sat.proofs.model.first_unmet.Goals as goal
 
 pub loop-number-preserved : goal.loop-number-preserved

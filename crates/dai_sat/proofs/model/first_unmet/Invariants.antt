@@ -1,7 +1,7 @@
 use Rattle.std.proofs.Common.{◌<◌, ℕ, List}
 use Rattle.std.specs.List.{Any}
-use Rattle.dai_sat.specs.Codes.{AreCodesOf}
-use Rattle.dai_sat.specs.Trail.{IsTrueIn}
+use Rattle.dai_trail.specs.Codes.{AreCodesOf}
+use Rattle.dai_trail.specs.Trail.{IsTrueIn}
 use Rattle.dai_sat.proofs.model.first_unmet.Given as goal
 
 abbrev pub invariant-loop-number : goal.invariant-loop-number

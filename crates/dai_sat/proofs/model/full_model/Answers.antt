@@ -1,6 +1,6 @@
 use Rattle.std.proofs.Common.{arith, ◌<◌, ◌==◌, false, length, get_or, ap, ◌∙◌}
 use Rattle.std.proofs.lemmas.List.{length-map}
-use Rattle.dai_sat.specs.Codes.{digit}
+use Rattle.dai_trail.specs.Codes.{digit}
 use Rattle.dai_sat.proofs.LeastModels.{value_at-map, whole_meets, whole_refuted}
 use Rattle.dai_sat.proofs.model.full_model.Goals as goal
 

@@ -1,5 +1,5 @@
-use Rattle.dai_sat.proofs.Forces.{forced_forgets}
-use Rattle.dai_sat.proofs.Mirrors.{forgets_refl}
+use Rattle.dai_trail.proofs.Forces.{forced_forgets}
+use Rattle.dai_trail.proofs.Mirrors.{forgets_refl}
 use Rattle.dai_sat.proofs.pace.let_go.Goals as goal
 
 pub returns-then-not-is_full-clause-forgets : goal.returns-then-not-is_full-clause-forgets

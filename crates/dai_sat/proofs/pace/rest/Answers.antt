@@ -1,6 +1,6 @@
 use Rattle.std.proofs.Common.{arith, ◌<◌, ◌≤◌, ◌-◌, ◌^◌, ℕ, length, ap, sym, ◌∙◌, subst}
 use Rattle.dai_sat.specs.Under.{effort}
-use Rattle.dai_sat.proofs.Forces.{sound_cut, keeps_none}
+use Rattle.dai_trail.proofs.Forces.{sound_cut, keeps_none}
 use Rattle.dai_sat.proofs.Unders.{restart_falls}
 use Rattle.dai_sat.proofs.pace.rest.Goals as goal
 

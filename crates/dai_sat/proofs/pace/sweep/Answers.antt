@@ -1,8 +1,8 @@
 use Rattle.std.proofs.Common.{arith, ◌≡◌, ◌<◌, ◌++◌, ◌∷◌, [], ℕ, List, length, sym, subst}
-use Rattle.dai_sat.specs.Trail.{AreImplied}
-use Rattle.dai_sat.specs.Marks.{IsImplied}
-use Rattle.dai_sat.proofs.Encodings.{learned_implied}
-use Rattle.dai_sat.proofs.Turns.{implied_push}
+use Rattle.dai_trail.specs.Trail.{AreImplied}
+use Rattle.dai_trail.specs.Marks.{IsImplied}
+use Rattle.dai_trail.proofs.Encodings.{learned_implied}
+use Rattle.dai_trail.proofs.Turns.{implied_push}
 use Rattle.dai_sat.proofs.pace.sweep.Goals as goal
 
 pub loop-number-preserved : goal.loop-number-preserved

@@ -1,5 +1,5 @@
 use Rattle.std.proofs.Common.{◌≡◌}
-use Rattle.dai_sat.specs.Trail.{AreImplied}
+use Rattle.dai_trail.specs.Trail.{AreImplied}
 use Rattle.dai_sat.proofs.pace.sweep.Given as goal
 
 abbrev pub invariant-loop-number : goal.invariant-loop-number

@@ -1,5 +1,5 @@
 use Rattle.std.proofs.Common.{◌<◌, ◌/◌, ℕ, List, length, get_or, sym, subst}
-use Rattle.dai_sat.proofs.Encodings.{code_below}
+use Rattle.dai_trail.proofs.Encodings.{code_below}
 use Rattle.dai_sat.proofs.question.answer_under.Goals as goal
 
 pub search-requires-clause-below : goal.search-requires-clause-below

@@ -1,7 +1,7 @@
 use Rattle.std.proofs.Common.{arith, ◌≡◌, ◌<◌, length, get_or, ap, refl, ◌∙◌}
 use Rattle.std.proofs.lemmas.List.{get_or_read}
-use Rattle.dai_sat.specs.declared.trail.TheConstants.{DECISION}
-use Rattle.dai_sat.proofs.Forces.{enters_points}
+use Rattle.dai_trail.specs.declared.trail.TheConstants.{DECISION}
+use Rattle.dai_trail.proofs.Forces.{enters_points}
 use Rattle.dai_sat.proofs.Unders.{under_wanted}
 use Rattle.dai_sat.proofs.question.choose.Goals as goal
 

@@ -1,8 +1,8 @@
 use Rattle.std.proofs.Common.{arith, ◌≤◌, ◌∙◌, subst}
 use Rattle.std.specs.Option.{MatchOption}
-use Rattle.dai_sat.specs.declared.trail.TheConstants.{DECISION}
-use Rattle.dai_sat.specs.Trail.{IsRefuted, IsFullModel}
-use Rattle.dai_sat.proofs.Forces.{sound_cut, rank_same, enters_points}
+use Rattle.dai_trail.specs.declared.trail.TheConstants.{DECISION}
+use Rattle.dai_trail.specs.Trail.{IsRefuted, IsFullModel}
+use Rattle.dai_trail.proofs.Forces.{sound_cut, rank_same, enters_points}
 use Rattle.dai_sat.proofs.Decisions.{code_free}
 use Rattle.dai_sat.proofs.Unders.{past_same, past_true, under_past, under_keeps, model_asked}
 use Rattle.dai_sat.proofs.question.choose_var.Goals as goal
@@ -17,7 +17,7 @@ returns-in-Some-clause-answer c =
       omega (arith, c.in_ok-decide.ensures.rank, rank_same c.args.trail.now c.open_var.new.trail c.open_var.ensures.same),
       under_past c.args.asked.now.codes.items c.args.asked.now.floor c.open_var.new.trail c.decide.new.trail c.code_of.result DECISION past
           (enters_points c.open_var.new.trail c.decide.new.trail c.code_of.result DECISION c.open_var.ensures.trail.mirror
-          (code_free c.open_var.new.trail c.code_of.result c.in-Some.var c.phase-phase.result c.code_of.ensures free.0 free.1) c.in_ok-decide.ensures.enters),
+          (code_free c.open_var.new.trail c.code_of.result c.in-Some.var c.in-Some.phase c.code_of.ensures free.0 free.1) c.in_ok-decide.ensures.enters),
     )
 
 pub full_model-requires-clause-sound : goal.full_model-requires-clause-sound

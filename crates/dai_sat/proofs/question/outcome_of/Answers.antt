@@ -1,11 +1,11 @@
 use Rattle.std.proofs.Common.{ap, ◌∙◌, subst, map, List}
 use Rattle.std.specs.List.{All, Contains}
 use Rattle.dai_sat.specs.declared.question.Found.{Found}
-use Rattle.dai_sat.specs.declared.cnf.Lit.{Lit}
-use Rattle.dai_sat.specs.Formula.{IsTrueAt}
-use Rattle.dai_sat.specs.Codes.{lit_of}
+use Rattle.dai_trail.specs.declared.cnf.Lit.{Lit}
+use Rattle.dai_trail.specs.Formula.{IsTrueAt}
+use Rattle.dai_trail.specs.Codes.{lit_of}
 use Rattle.dai_sat.specs.Under.{IsFoundFor}
-use Rattle.dai_sat.proofs.Encodings.{map_lit_of-map_code_of}
+use Rattle.dai_trail.proofs.Encodings.{map_lit_of-map_code_of}
 use Rattle.dai_sat.proofs.question.outcome_of.Goals as goal
 
 pub returns-in-Model-clause-outcome : goal.returns-in-Model-clause-outcome

@@ -1,6 +1,6 @@
 use Rattle.std.proofs.Common.{ℕ, length, sym, ◌∙◌, subst}
-use Rattle.dai_sat.specs.declared.marks.Marks.{Marks}
-use Rattle.dai_sat.specs.Marks.{AreStamps}
+use Rattle.dai_trail.specs.declared.marks.Marks.{Marks}
+use Rattle.dai_trail.specs.Marks.{AreStamps}
 use Rattle.dai_sat.proofs.Unders.{under_keeps}
 use Rattle.dai_sat.proofs.question.search.Goals as goal
 

@@ -1,6 +1,6 @@
 use Rattle.std.proofs.Common.{◌≡◌, length}
-use Rattle.dai_sat.specs.Trail.{IsSound}
-use Rattle.dai_sat.specs.Marks.{AreStamps}
+use Rattle.dai_trail.specs.Trail.{IsSound}
+use Rattle.dai_trail.specs.Marks.{AreStamps}
 use Rattle.dai_sat.specs.Under.{IsUnder, effort}
 use Rattle.dai_sat.proofs.question.search.Given as goal
 

@@ -1,6 +1,6 @@
 use Rattle.std.proofs.Common.{arith, ◌≤◌, refl}
-use Rattle.dai_sat.specs.declared.trail.TheConstants.{DECISION}
-use Rattle.dai_sat.proofs.Forces.{forced_points, forced_cut, enters_points}
+use Rattle.dai_trail.specs.declared.trail.TheConstants.{DECISION}
+use Rattle.dai_trail.proofs.Forces.{forced_points, forced_cut, enters_points}
 use Rattle.dai_sat.proofs.Decisions.{free_same}
 use Rattle.dai_sat.proofs.step.decide.Goals as goal
 

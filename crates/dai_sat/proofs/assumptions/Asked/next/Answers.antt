@@ -1,5 +1,5 @@
 use Rattle.std.proofs.Common.{ℕ, List, ◌<◌, length, get_or, refl, subst}
-use Rattle.dai_sat.specs.Trail.{IsTrueIn}
+use Rattle.dai_trail.specs.Trail.{IsTrueIn}
 use Rattle.dai_sat.proofs.Unders.{past_decision, past_all, decisions_asked}
 use Rattle.dai_sat.proofs.assumptions.Asked.next.Goals as goal
 

@@ -1,5 +1,5 @@
 use Rattle.std.proofs.Common.{sym, subst}
-use Rattle.dai_sat.specs.Formula.{Formula}
+use Rattle.dai_trail.specs.Formula.{Formula}
 use Rattle.dai_sat.specs.Under.{IsReady}
 use Rattle.dai_sat.proofs.Readies.{ready_grow}
 use Rattle.dai_sat.proofs.solver.Solver.grow.Goals as goal

@@ -1,0 +1,49 @@
+use Rattle.std.proofs.Common.{◌≡◌, ◌+◌, ◌<◌, [], ◌∷◌, ◌++◌, string_bytes, length, IfSome, MatchOption, ap, sym, ◌∙◌, subst, append_assoc, inl, arith}
+use Rattle.std.proofs.lemmas.List.{length_push}
+use Rattle.dai_dimacs.specs.Pieces.{lines}
+use Rattle.dai_dimacs.specs.Talks.{IsTalkRight}
+use Rattle.dai_dimacs.specs.Inquiries.{TakesTalkLine}
+use Rattle.dai_dimacs.proofs.Texts.{rest_of}
+use Rattle.dai_dimacs.proofs.Talks.{told_entries}
+use Rattle.dai_dimacs.proofs.ask.answer_all.Goals as goal
+
+pub returns-then-not-branch : goal.returns-then-not-branch
+returns-then-not-branch c =
+    let k = c.loop-solver.invariant in
+    let said = string_bytes c.loop-solver.said in
+    let line = c.first_line.result.0.now in
+    let more = rest_of (lines c.loop-solver.text.now) line c.first_line.result.1 lines c.first_line.ensures.lines in
+    record {
+      front = k.seen;
+      line = line;
+      rest = more.0;
+      splits = k.splits ∙ ap (λ xs. k.seen ++ xs) more.1;
+      counted = ap (λ n. n + 1) k.counted;
+      begins = told_entries k.seen c.loop-solver.solver said k.told;
+      wrong = inl (subst (TakesTalkLine line c.loop-solver.solver c.take_line.new.solver said (string_bytes c.take_line.new.said)) c.if-not-branch.true c.in_ok-take_line.ensures k.seen k.told);
+    }
+
+pub returns-in_default : goal.returns-in_default
+returns-in_default c =
+    let k = c.loop-solver.invariant in
+    let said = string_bytes c.loop-solver.said in
+    let line = c.first_line.result.0.now in
+    let last : lines c.loop-solver.text.now ≡ line ∷ [] = subst (λ o. MatchOption o (lines c.loop-solver.text.now ≡ line ∷ []) (λ after. lines c.loop-solver.text.now ≡ line ∷ lines after.now)) c.in_default.is c.first_line.ensures.lines in
+    let whole : k.seen ++ line ∷ [] ≡ lines c.args.bytes.now = sym (k.splits ∙ ap (λ xs. k.seen ++ xs) last) in
+    let told = subst (TakesTalkLine line c.loop-solver.solver c.take_line.new.solver said (string_bytes c.take_line.new.said)) c.if-not-branch.false c.in_ok-take_line.ensures k.seen k.told in
+    subst (λ text. IsTalkRight text c.ending.result) whole (c.ending.ensures k.seen line (ap (λ n. n + 1) k.counted) (told_entries k.seen c.loop-solver.solver said k.told) told)
+
+pub loop-solver-preserved : goal.loop-solver-preserved
+loop-solver-preserved c =
+    let k = c.loop-solver.invariant in
+    let said = string_bytes c.loop-solver.said in
+    let line = c.first_line.result.0.now in
+    let after : lines c.loop-solver.text.now ≡ line ∷ lines c.in-Some.rest.now = subst (λ o. MatchOption o (lines c.loop-solver.text.now ≡ line ∷ []) (λ a. lines c.loop-solver.text.now ≡ line ∷ lines a.now)) c.in-Some.is c.first_line.ensures.lines in
+    let less : length c.in-Some.rest.now < length c.loop-solver.text.now = subst (λ o. IfSome o (λ a. length a.now < length c.loop-solver.text.now)) c.in-Some.is c.first_line.ensures.shorter in
+    record {
+      seen = k.seen ++ line ∷ [];
+      splits = k.splits ∙ ap (λ xs. k.seen ++ xs) after ∙ sym (append_assoc k.seen (line ∷ []) (lines c.in-Some.rest.now));
+      counted = omega (arith, k.counted, length_push k.seen line);
+      room = omega (arith, less, k.room);
+      told = subst (TakesTalkLine line c.loop-solver.solver c.take_line.new.solver said (string_bytes c.take_line.new.said)) c.if-not-branch.false c.in_ok-take_line.ensures k.seen k.told;
+    }

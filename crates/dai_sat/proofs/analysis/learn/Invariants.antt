@@ -1,5 +1,0 @@
-use Rattle.dai_sat.proofs.Gathers.{Gathered}
-use Rattle.dai_sat.proofs.analysis.learn.Given as goal
-
-abbrev pub invariant-loop-code : goal.invariant-loop-code
-invariant-loop-code l = Gathered l.marks l.learned.items l.last l.code-index

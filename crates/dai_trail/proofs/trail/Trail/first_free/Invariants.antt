@@ -1,0 +1,13 @@
+use Rattle.std.proofs.Common.{◌-◌, ◌≡◌, length}
+use Rattle.dai_trail.specs.Trail.{CutsTo, IsTrail}
+use Rattle.dai_trail.proofs.trail.Trail.first_free.Given as goal
+
+abbrev pub invariant-loop-self : goal.invariant-loop-self
+invariant-loop-self l = record {
+  trail : IsTrail l.self;
+  cuts : CutsTo l.initial.self l.self l.initial.self.len;
+  values : l.self.values.items ≡ l.initial.self.values.items;
+}
+
+abbrev pub decreases-loop-self : goal.decreases-loop-self
+decreases-loop-self l = length l.initial.self.values.items - l.self.next
