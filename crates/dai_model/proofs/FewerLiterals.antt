@@ -71,7 +71,7 @@ narrowed n j i below other inside = by_case (cases_lt i j) (widened_cases j i) (
     by_case (inr after) own_case (inr (a, e)) = (i - 1, omega (arith, after, other, below), omega (arith, e, after, other))
 
 module _ (P : Protocol) (B : Bounds) (c d : Clause) (t : IsTemplate P B c) (u : IsTemplate P B d) (sub : Subsumes P c d) (j : ℕ) (inside : j < length d.literals) (none : IsHit (length c.literals) (target P B c d t u sub) j → ⊥) where
-  pub shorter : Clause
+  unfoldable pub shorter : Clause
   shorter = record { counts = d.counts; literals = remove d.literals j }
 
   pub shorter_length : length (remove d.literals j) + 1 ≡ length d.literals
@@ -96,7 +96,7 @@ module _ (P : Protocol) (B : Bounds) (c d : Clause) (t : IsTemplate P B c) (u : 
             subst (λ n. atom_number n < atom_number (slice_index (remove d.literals j) k)) (sym (removed_at d.literals j i inside)) (subst (λ n. atom_number (slice_index d.literals (widened j i)) < atom_number n) (sym (removed_at d.literals j k inside)) once);
       }
 
-  same_literals : (k : ℕ) → literal_at P shorter k ≡ literal_at P d (widened j k)
+  pub same_literals : (k : ℕ) → literal_at P shorter k ≡ literal_at P d (widened j k)
   unfolding shorter
   same_literals k = ap (literal_among (atoms_of P d.counts)) (removed_at d.literals j k inside)
 

@@ -28,7 +28,7 @@ abbrev lowered_by : {x v : ℕ} → (x < v) ⊎ (v ≤ x) → ℕ
 lowered_by {x} (inl before) = x
 lowered_by {x} (inr after) = x - 1
 
-lowered : ℕ → ℕ → ℕ
+pub lowered : ℕ → ℕ → ℕ
 lowered v x = lowered_by (cases_lt x v)
 
 lowered_cases : (v x : ℕ) → ((x < v) × (lowered v x ≡ x)) ⊎ ((v ≤ x) × (lowered v x ≡ x - 1))
@@ -55,7 +55,7 @@ lowered_rises v x y p q before = by_case (lowered_cases v x) (lowered_cases v y)
     by_case (inr (a, e)) (inl (b, f)) = absurd (let none : ⊥ = omega (arith, a, b, before) in none)
     by_case (inr (a, e)) (inr (b, f)) = omega (arith, e, f, a, p, before)
 
-widened_lowered : (v x : ℕ) → x ≢ v → widened v (lowered v x) ≡ x
+pub widened_lowered : (v x : ℕ) → x ≢ v → widened v (lowered v x) ≡ x
 widened_lowered v x other = by_case (lowered_cases v x) (widened_cases v (lowered v x))
   where
     by_case : ((x < v) × (lowered v x ≡ x)) ⊎ ((v ≤ x) × (lowered v x ≡ x - 1)) → ((lowered v x < v) × (widened v (lowered v x) ≡ lowered v x)) ⊎ ((v ≤ lowered v x) × (widened v (lowered v x) ≡ lowered v x + 1)) → widened v (lowered v x) ≡ x
@@ -68,13 +68,13 @@ lowered_apart : (ordered : Bool) (v x y : ℕ) → x ≢ v → y ≢ v → Apart
 lowered_apart true v x y p q h = lowered_rises v x y p q h
 lowered_apart false v x y p q h = λ e. h (sym (widened_lowered v x p) ∙ ap (widened v) e ∙ widened_lowered v y q)
 
-lowered_places : (ordered : Bool) (n m v : ℕ) (g : ℕ → ℕ) → Places ordered n m g → v < m → (IsHit n g v → ⊥) → Places ordered n (m - 1) (λ i. lowered v (g i))
+pub lowered_places : (ordered : Bool) (n m v : ℕ) (g : ℕ → ℕ) → Places ordered n m g → v < m → (IsHit n g v → ⊥) → Places ordered n (m - 1) (λ i. lowered v (g i))
 lowered_places ordered n m v g h below none = record {
   inside = λ i k. lowered_inside v (g i) m (λ e. none (i, k, e)) (h.inside i k) below;
   apart = λ i j before k. lowered_apart ordered v (g i) (g j) (λ e. none (i, omega (arith, before, k), e)) (λ e. none (j, k, e)) (h.apart i j before k);
 }
 
-apart_before : (ordered : Bool) (x y : ℕ) → x < y → Apart ordered x y
+pub apart_before : (ordered : Bool) (x y : ℕ) → x < y → Apart ordered x y
 apart_before true x y h = h
 apart_before false x y h = λ e. let none : ⊥ = omega (arith, h, e) in none
 
@@ -85,13 +85,13 @@ widened_below v k m h below = by_case (widened_cases v k)
     by_case (inl (a, e)) = omega (arith, e, below)
     by_case (inr (a, e)) = omega (arith, e, below)
 
-widened_places : (ordered : Bool) (m v : ℕ) → v < m → Places ordered (m - 1) m (widened v)
+pub widened_places : (ordered : Bool) (m v : ℕ) → v < m → Places ordered (m - 1) m (widened v)
 widened_places ordered m v h = record {
   inside = λ k below. widened_below v k m h below;
   apart = λ i k before below. apart_before ordered (widened v i) (widened v k) (widened_rises v i k before);
 }
 
-same_places : (ordered : Bool) (m : ℕ) → Places ordered m m (λ k. k)
+pub same_places : (ordered : Bool) (m : ℕ) → Places ordered m m (λ k. k)
 same_places ordered m = record { inside = λ k below. below; apart = λ i k before below. apart_before ordered i k before }
 
 module _ (P : Protocol) (B : Bounds) (c d : Clause) (t : IsTemplate P B c) (u : IsTemplate P B d) (sub : Subsumes P c d) (even : length c.literals ≡ length d.literals) (s v : ℕ) (inside : v < slice_index d.counts s) (none : IsHit (slice_index c.counts s) (slice_index (of_sort sub.injection s)) v → ⊥) where

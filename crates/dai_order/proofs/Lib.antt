@@ -1,1 +1,13 @@
-pub mod Copied
+pub mod Sides
+pub mod Entering
+pub mod MoreLiterals
+pub mod Gaining
+pub mod Larger
+pub mod MoreVariables
+pub mod VariableGains
+pub mod AllWeakenings
+pub mod Unrelated
+pub mod Sampled
+pub mod Dropping
+pub mod Preimages
+pub mod Lessening

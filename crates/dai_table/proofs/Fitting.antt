@@ -1,32 +1,30 @@
 -- A state is a structure of its protocol, a block of it may be executed there, and a closed formula has a value.
-use Rattle.std.proofs.Common.{◌≡◌, ◌<◌, ℕ, zero, suc, Bool, List, [], ◌∷◌, length, get_or, map, Some, Vec, sym, ◌∙◌, ap, subst, refl, arith}
+use Rattle.std.proofs.Common.{◌≡◌, ◌<◌, ℕ, zero, suc, List, [], ◌∷◌, length, get_or, map, Some, sym, ◌∙◌, ap, subst, refl, arith}
 use Rattle.std.specs.Prelude.{slice_get, IsTrue}
 use Rattle.std.specs.Option.{option_map}
-use Rattle.std.specs.declared.alloc.Global.{Global}
 use Rattle.std.specs.List.{All}
 use Rattle.std.proofs.lemmas.List.{length-map, get_or-map}
-use Rattle.dai_model.specs.Protocol.{Protocol, Relation, Individual, Block, Action}
+use Rattle.dai_model.specs.Protocol.{Protocol, Individual, Block, Action}
 use Rattle.dai_model.specs.Structure.{is_tuple}
 use Rattle.dai_model.specs.Formula.{Formula}
 use Rattle.dai_model.specs.Value.{Environment}
 use Rattle.dai_model.specs.WellSorted.{IsProtocol, IsWellSortedBlock, IsWellSorted, closed_scope}
-use Rattle.dai_model.proofs.Typed.{slice_get-length}
 use Rattle.dai_logic.specs.declared.structure.Structure.{Structure}
 use Rattle.dai_logic.specs.declared.structure.BlockId.{BlockId}
 use Rattle.dai_logic.specs.declared.structure.BlockId.TheVariants.{Init, Act}
 use Rattle.dai_logic.specs.declared.protocol.Formula.{Formula as Form}
 use Rattle.dai_logic.specs.Trees.{formula_of}
 use Rattle.dai_logic.specs.Protocols.{block_named}
-use Rattle.dai_logic.specs.Tables.{tuple_count, IsEvaluable}
+use Rattle.dai_logic.specs.Tables.{IsEvaluable}
 use Rattle.dai_logic.specs.Execution.{IsCall}
-use Rattle.dai_table.specs.Flags.{IsFlags, IsTableOf, IsStateOf}
+use Rattle.dai_table.specs.Flags.{IsFlags}
 
 -- a list of types where there is none is empty
-no_sorts : (n : ℕ) (sorts : List ℕ) → n ≡ 0 → All (λ sort. sort < n) sorts → sorts ≡ []
+pub no_sorts : (n : ℕ) (sorts : List ℕ) → n ≡ 0 → All (λ sort. sort < n) sorts → sorts ≡ []
 no_sorts n [] none h = refl
 no_sorts n (sort ∷ sorts) none h = let k : sort < n = h 0 0 (omega arith) in absurd (omega arith)
 
-no_individuals : (n : ℕ) (individuals : List Individual) → n ≡ 0 → All (λ (I : Individual). I.sort < n) individuals → individuals ≡ []
+pub no_individuals : (n : ℕ) (individuals : List Individual) → n ≡ 0 → All (λ (I : Individual). I.sort < n) individuals → individuals ≡ []
 no_individuals n [] none h = refl
 no_individuals n (I ∷ individuals) none h = let k : I.sort < n = h 0 I (omega arith) in absurd (omega arith)
 
@@ -35,30 +33,8 @@ slice_get-get_or [] i x d h = absurd (let e : ⊥ = cc in e)
 slice_get-get_or (y ∷ ys) zero x d h = cc
 slice_get-get_or (y ∷ ys) (suc i) x d h = slice_get-get_or ys i x d h
 
-pub state_fits : (P : Protocol) (s : Structure) (flags : ℕ) → IsProtocol P → IsTableOf P → IsStateOf flags s → flags ≡ length P.relations → IsFlags P s
-state_fits P s flags protocol table state count =
-    let none : length P.sorts ≡ 0 = ap length table.no_types in
-    let individuals = no_individuals (length P.sorts) P.individuals none protocol.individuals in
-    record {
-      no_types = table.no_types;
-      structure = record {
-        one_size_each = (let e : length s.sizes.items ≡ 0 = ap length state.no_sizes in e ∙ sym none);
-        inhabited = λ k d h. absurd (let e : length s.sizes.items ≡ 0 = ap length state.no_sizes in omega (arith, e));
-        one_table_each = length-map s.tables.items (λ (t : Vec Bool Global). t.items) ∙ (state.one_table_each ∙ count);
-        whole_tables = λ r R h.
-            let below = slice_get-length P.relations r R h in
-            let sorts = protocol.relations r R below in
-            let same = slice_get-get_or P.relations r R R h in
-            let arguments = no_sorts (length P.sorts) R.arguments none (subst (λ (Q : Relation). All (λ sort. sort < length P.sorts) Q.arguments) same sorts) in
-            let one = state.one_value_each r [] (rw length-map (let e = state.one_table_each in omega (arith, e, count, below))) in
-            one ∙ ap (tuple_count s.sizes.items) (sym arguments);
-        one_value_each = (let e : length s.values.items ≡ 0 = ap length state.no_values in let k : length P.individuals ≡ 0 = ap length individuals in e ∙ sym k);
-        values_inside = λ i I h. absurd (let below = slice_get-length P.individuals i I h in let e : length P.individuals ≡ 0 = ap length individuals in omega (arith, below, e));
-      };
-    }
-
 -- the block of this name, without arguments and choices
-call_of : (P : Protocol) (block : BlockId) (s : Structure) (called : Block) → P.sorts ≡ [] → IsWellSortedBlock P called → block_named P block ≡ Some called → IsCall P block s [] []
+pub call_of : (P : Protocol) (block : BlockId) (s : Structure) (called : Block) → P.sorts ≡ [] → IsWellSortedBlock P called → block_named P block ≡ Some called → IsCall P block s [] []
 call_of P block s called no_types sorted named =
     let none : length P.sorts ≡ 0 = ap length no_types in
     let parameters = no_sorts (length P.sorts) called.parameters none sorted.parameters in

@@ -18,4 +18,5 @@ mod tuples;
 
 pub use clause::{Atom, Clause, Shape};
 pub use limits::{atoms_within, templates_within};
+pub use meeting::may_stand;
 pub use space::{Space, SpaceError};

@@ -93,8 +93,9 @@ fn some_true(shape: &Shape, literals: &[u8], s: &Structure, values: &[u16]) -> b
 }
 
 /// Whether the element may stand for this variable of the type: it is above those of the variables before it
-/// where the type is ordered, and else none of them.
-pub(crate) fn may_stand(ordered: bool, sort: u8, number: u8, element: u16, values: &[u16]) -> bool
+/// where the type is ordered, and else none of them. Variable `number` of a type has its element at place
+/// `4 * sort + number`.
+pub fn may_stand(ordered: bool, sort: u8, number: u8, element: u16, values: &[u16]) -> bool
     requires long { length values.now ≡ 32 }
     requires known { sort < 8 }
     requires few { number ≤ 4 }

@@ -122,6 +122,13 @@ impl Space {
         })
     }
 
+    /// Which of the protocol's types are ordered, one for each type.
+    pub fn orders(&self) -> &[bool]
+        ensures { result.now ≡ self.now.ordered.items }
+    {
+        &self.ordered
+    }
+
     /// Print order: by the number of variables, the counts, the number of literals and then the literals. Shapes
     /// stand in print order, so their numbers decide first.
     pub fn compare(&self, left: &Clause, right: &Clause) -> Ordering

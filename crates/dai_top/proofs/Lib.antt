@@ -1,6 +1,5 @@
-pub mod Closed
 pub mod Held
-pub mod Printed
+pub mod Reporting
 pub mod Puts
 pub mod Sorts
 pub mod Faults

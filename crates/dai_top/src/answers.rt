@@ -2,6 +2,8 @@
 ghost use Rattle.std.specs.Prelude.{◌≡◌, ◌≤◌, length, vec_len, None, Some, IfOk, IfErr};
 ghost use Rattle.dai_logic.specs.Protocols.{protocol_of};
 ghost use Rattle.dai_model.specs.Template.{Bounds};
+ghost use Rattle.dai_model.specs.Classes.{all_sizes};
+ghost use Rattle.dai_model.specs.Report.{IsReport};
 ghost use Rattle.dai_template.specs.Spaces.{IsSpaceOf};
 ghost use Rattle.dai_model.specs.Sizes.{size_bounds};
 ghost use Rattle.dai_model.specs.Shapes.{shapes_within};
@@ -13,7 +15,7 @@ ghost use Rattle.dai_words.specs.Words.{AreWithinRanges};
 ghost use Rattle.dai_table.specs.Flags.{IsTableOf};
 ghost use Rattle.dai_top.specs.Bounds.{bounds_of};
 ghost use Rattle.dai_top.specs.Limits.{fault_of, command_fault};
-ghost use Rattle.dai_top.specs.Answers.{Answer as Meaning, IsAnswerTo};
+ghost use Rattle.dai_top.specs.Answers.{IsAnswerTo, IsStatusOf};
 ghost use Rattle.dai_top.specs.Stops.{IsFaultThat, IsStop, answer_of};
 
 use crate::bounds::bounds;
@@ -21,11 +23,11 @@ use crate::limits::within_limits;
 use crate::report::report;
 use crate::stop::{Stop, no_protocol};
 use dai_base::{Fault, Place};
-use dai_front::{one_verdict, read_protocol};
+use dai_front::read_protocol;
 use dai_logic::Protocol;
 use dai_print::{Counts, counts_text};
 use dai_query::{ground, moves};
-use dai_table::MOST_FLAGS;
+use dai_table::{MOST_FLAGS, TruthTable};
 use dai_template::{Space, atoms_within, templates_within};
 use dai_words::{Command, Settings};
 use std::alloc::Global;
@@ -42,16 +44,15 @@ pub struct Answer {
 ///
 /// `Fault` comes exactly where the bytes or the settings are refused: by the first fault of the bytes; or else where
 /// `--vars` names no type; or else by the first count above its limit; or else, for a report, where the file isn't
-/// one of at most ten flags. For `space` the text is that of the counts.
+/// one of at most ten flags. For `infer` the text is the report over structures of all sizes, and the status tells
+/// whether every invariant follows; for `space` the text is that of the counts, with status 0.
 pub fn answer_to(alloc: Global, settings: &Settings, bytes: &[u8]) -> Result<Answer, Stop>
     requires short { length bytes.now ≤ 1048576 }
     requires ranges { AreWithinRanges (choices_of settings.now) }
     ensures refused { IfErr result (IsStop (choices_of settings.now) bytes.now) }
-    ensures counted { IfOk result (λ a. settings.now.command ≡ counts_space → IsAnswerTo (choices_of settings.now) bytes.now (answer_of a)) }
-    ensures reported { IfOk result (λ a. settings.now.command ≡ infers → (x : Meaning) → IsAnswerTo (choices_of settings.now) bytes.now x → ⊥) }
+    ensures answered { IfOk result (λ a. IsAnswerTo (choices_of settings.now) bytes.now (answer_of a)) }
     ensures status { IfOk result (λ a. a.status ≤ 1) }
 {
-    one_verdict();
     match read_protocol(alloc, bytes) {
         Ok(protocol) => answer_on(alloc, settings, &protocol),
         Err(error) => Err(no_protocol(error)),
@@ -63,6 +64,7 @@ fn answer_on(alloc: Global, settings: &Settings, protocol: &Protocol) -> Result<
     requires { AreWithinRanges (choices_of settings.now) }
     ensures refused { IfErr result (IsFaultThat (λ f. fault_of (choices_of settings.now) (protocol_of protocol.now) ≡ Some f)) }
     ensures accepted { IfOk result (λ _. fault_of (choices_of settings.now) (protocol_of protocol.now) ≡ None) }
+    ensures reported { IfOk result (λ a. settings.now.command ≡ infers → IsReport all_sizes (protocol_of protocol.now) (bounds_of (protocol_of protocol.now) (choices_of settings.now)) a.out.items × IsStatusOf all_sizes (protocol_of protocol.now) (bounds_of (protocol_of protocol.now) (choices_of settings.now)) a.status) }
     ensures counted { IfOk result (λ a. settings.now.command ≡ counts_space → (a.status ≡ 0) × (a.out.items ≡ text_of_counts (protocol_of protocol.now) (bounds_of (protocol_of protocol.now) (choices_of settings.now)) settings.now.size)) }
     ensures status { IfOk result (λ a. a.status ≤ 1) }
 {
@@ -80,6 +82,7 @@ fn infer(alloc: Global, protocol: &Protocol, space: &Space) -> Result<Answer, St
     requires { (B : Bounds) × IsSpaceOf (protocol_of protocol.now) B space.now }
     ensures refused { IfErr result (IsFaultThat (λ f. command_fault infers (protocol_of protocol.now) ≡ Some f)) }
     ensures accepted { IfOk result (λ _. command_fault infers (protocol_of protocol.now) ≡ None) }
+    ensures reported { IfOk result (λ a. (B : Bounds) → IsSpaceOf (protocol_of protocol.now) B space.now → IsReport all_sizes (protocol_of protocol.now) B a.out.items × IsStatusOf all_sizes (protocol_of protocol.now) B a.status) }
     ensures status { IfOk result (λ a. a.status ≤ 1) }
 {
     if !protocol.sorts.is_empty() || protocol.relations.len() > MOST_FLAGS {
@@ -88,7 +91,8 @@ fn infer(alloc: Global, protocol: &Protocol, space: &Space) -> Result<Answer, St
             at: Place { line: 1, column: 1 },
         }));
     }
-    Ok(report(alloc, protocol, space)?)
+    let mut table = TruthTable::new(alloc, protocol)?;
+    Ok(report(alloc, &mut table, protocol, space)?)
 }
 
 /// The counts of the space, and of the sizes.

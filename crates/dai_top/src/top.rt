@@ -37,7 +37,7 @@ pub fn distai<F: Files, O: Sink, E: Sink>(
     // Words that are accepted and bytes that are held: their answer is put, or the read failed and its line is put.
     ensures answered { (c : Choices) (held : Holdings) (bytes : List ℕ) (x : Meaning) → settings_of (texts words.now) ≡ Ok c → F.held files.old ≡ Some held → held c.operand ≡ Some bytes → IsAnswerTo c bytes x
         → ((x.status ≡ 2) × (out.new ≡ out.old) × IsTold x.err 2 (E.written err.old) (E.written err.new) (E.faults err.old) (E.faults err.new) result)
-        ⊎ (((x.status ≡ 0) × (err.new ≡ err.old) × IsTold x.out 0 (O.written out.old) (O.written out.new) (O.faults out.old) (O.faults out.new) result)
+        ⊎ (((x.status ≤ 1) × (err.new ≡ err.old) × IsTold x.out x.status (O.written out.old) (O.written out.new) (O.faults out.old) (O.faults out.new) result)
         ⊎ (Rises (F.faults files.old) (F.faults files.new) × (out.new ≡ out.old) × IsTold (read_line c.operand) 3 (E.written err.old) (E.written err.new) (E.faults err.old) (E.faults err.new) result)) }
 
     // Status 2 after words that are accepted is the line of a refusal of the bytes that are held.
@@ -70,7 +70,7 @@ fn run<F: Files, O: Sink, E: Sink>(
     requires { AreWithinRanges (choices_of settings.now) }
     ensures answered { (held : Holdings) (bytes : List ℕ) (x : Meaning) → F.held files.old ≡ Some held → held (choices_of settings.now).operand ≡ Some bytes → IsAnswerTo (choices_of settings.now) bytes x
         → ((x.status ≡ 2) × (out.new ≡ out.old) × IsTold x.err 2 (E.written err.old) (E.written err.new) (E.faults err.old) (E.faults err.new) result)
-        ⊎ (((x.status ≡ 0) × (err.new ≡ err.old) × IsTold x.out 0 (O.written out.old) (O.written out.new) (O.faults out.old) (O.faults out.new) result)
+        ⊎ (((x.status ≤ 1) × (err.new ≡ err.old) × IsTold x.out x.status (O.written out.old) (O.written out.new) (O.faults out.old) (O.faults out.new) result)
         ⊎ (Rises (F.faults files.old) (F.faults files.new) × (out.new ≡ out.old) × IsTold (read_line (choices_of settings.now).operand) 3 (E.written err.old) (E.written err.new) (E.faults err.old) (E.faults err.new) result)) }
     ensures refused { result ≡ 2 → (out.new ≡ out.old) × TellsRefusal (F.held files.old) (choices_of settings.now) (E.written err.old) (E.written err.new) }
     ensures one_read { F.reads files.new ≤ F.reads files.old + 1 }
@@ -96,7 +96,7 @@ fn run_on<O: Sink, E: Sink>(
     requires ranges { AreWithinRanges (choices_of settings.now) }
     ensures answered { (x : Meaning) → IsAnswerTo (choices_of settings.now) bytes.now x
         → ((x.status ≡ 2) × (out.new ≡ out.old) × IsTold x.err 2 (E.written err.old) (E.written err.new) (E.faults err.old) (E.faults err.new) result)
-        ⊎ ((x.status ≡ 0) × (err.new ≡ err.old) × IsTold x.out 0 (O.written out.old) (O.written out.new) (O.faults out.old) (O.faults out.new) result) }
+        ⊎ ((x.status ≤ 1) × (err.new ≡ err.old) × IsTold x.out x.status (O.written out.old) (O.written out.new) (O.faults out.old) (O.faults out.new) result) }
     ensures refused { result ≡ 2 → (out.new ≡ out.old) × TellsRefusalOf bytes.now (choices_of settings.now) (E.written err.old) (E.written err.new) }
 {
     one_verdict();

@@ -1,8 +1,14 @@
-//! Down to the greatest inductive set: while some clause is refuted, remove it.
+//! Down to the greatest inductive set: clauses that a judge refutes are replaced by their weakenings, round by round.
 #![tactic(auto)]
 
+mod beginning;
+mod descent;
+mod following;
 mod judge;
-mod removal;
+mod rounds;
 
-pub use judge::Judge;
-pub use removal::greatest_list;
+pub use beginning::everything;
+pub use descent::{Weakened, greatest};
+pub use following::missing;
+pub use judge::{Counterexample, Judge};
+pub use rounds::Strike;

@@ -1,9 +1,8 @@
-use Rattle.std.proofs.Common.{◌≡◌, ◌≤◌, ℕ, List, Some, None, sym, ◌∙◌, ap, subst}
+use Rattle.std.proofs.Common.{◌≡◌, ◌≤◌, Some, sym, ◌∙◌, ap, subst}
 use Rattle.std.specs.List.{All}
 use Rattle.dai_logic.specs.Protocols.{protocol_of}
 use Rattle.dai_words.specs.declared.settings.Command.TheVariants.{Infer}
 use Rattle.dai_words.specs.Readings.{choices_of}
-use Rattle.dai_top.specs.Bounds.{bounds_of}
 use Rattle.dai_top.specs.Limits.{limit_fault, command_fault, fault_of}
 use Rattle.dai_top.proofs.Faults.{past_fault, within_fault, passed_on, all_passed_on, ok_always, bounds_small}
 use Rattle.dai_top.proofs.answers.answer_on.Goals as goal
@@ -40,3 +39,6 @@ returns-in-Space-clause-accepted c =
     let is = c.deref.ensures.value ∙ c.in_ok-vars.ensures.bounds.0 in
     let within = ap (λ vs. limit_fault P (record { variables = vs; literals = c.args.settings.now.lits }) c.args.settings.now.size) (sym is) ∙ c.in_ok-space.ensures.within in
     ok_always c.count.result (within_fault choices P c.in_ok-vars.ensures.bounds.1 within ∙ ap (λ command. command_fault command P) c.in-Space.is)
+
+pub infer-requires : goal.infer-requires
+infer-requires c = (record { variables = c.deref.result.now; literals = c.args.settings.now.lits }, c.in_ok-space.ensures.space)

@@ -1,4 +1,4 @@
-use Rattle.std.proofs.Common.{◌≡◌, ◌≤◌, ℕ, List, [], Some, None, sym, ◌∙◌, ap, subst}
+use Rattle.std.proofs.Common.{◌≡◌, Some, sym, subst}
 use Rattle.dai_logic.specs.Protocols.{protocol_of}
 use Rattle.dai_words.specs.Readings.{choices_of}
 use Rattle.dai_top.specs.Limits.{fault_of}
@@ -6,7 +6,7 @@ use Rattle.dai_top.specs.Answers.{refusal, IsAnswerTo, bad_choices}
 use Rattle.dai_top.proofs.Faults.{all_passed_on}
 use Rattle.dai_top.specs.declared.stop.Stop.{Stop}
 use Rattle.dai_top.specs.Stops.{IsStop}
-use Rattle.dai_top.proofs.OneAnswer.{OneVerdict, counted_by, reported_by, stopped_by}
+use Rattle.dai_top.proofs.OneAnswer.{done_on, stopped_by}
 use Rattle.dai_top.proofs.answers.answer_to.Goals as goal
 
 pub returns-in-Ok-clause-refused : goal.returns-in-Ok-clause-refused
@@ -16,19 +16,11 @@ returns-in-Ok-clause-refused c =
     all_passed_on (λ f. fault_of choices P ≡ Some f) (λ f. IsAnswerTo choices c.args.bytes.now (refusal choices.operand f))
     (λ f h. bad_choices c.requires.short c.in-Ok.ensures.protocol h) c.answer_on.result c.answer_on.ensures.refused
 
-pub returns-in-Ok-clause-counted : goal.returns-in-Ok-clause-counted
-returns-in-Ok-clause-counted c =
+pub returns-in-Ok-clause-answered : goal.returns-in-Ok-clause-answered
+returns-in-Ok-clause-answered c =
     let P = protocol_of c.in-Ok.protocol in
     let choices = choices_of c.args.settings.now in
-    let laws : OneVerdict = record { fault = c.one_verdict.ensures.fault; protocol = c.one_verdict.ensures.protocol; never_both = c.one_verdict.ensures.never_both } in
-    counted_by choices c.args.bytes.now P c.requires.short c.in-Ok.ensures.protocol c.answer_on.result c.answer_on.ensures.accepted c.answer_on.ensures.counted
-
-pub returns-in-Ok-clause-reported : goal.returns-in-Ok-clause-reported
-returns-in-Ok-clause-reported c =
-    let P = protocol_of c.in-Ok.protocol in
-    let choices = choices_of c.args.settings.now in
-    let laws : OneVerdict = record { fault = c.one_verdict.ensures.fault; protocol = c.one_verdict.ensures.protocol; never_both = c.one_verdict.ensures.never_both } in
-    reported_by laws choices c.args.bytes.now P c.requires.short c.in-Ok.ensures.protocol c.answer_on.result c.answer_on.ensures.accepted
+    done_on choices c.args.bytes.now P c.requires.short c.in-Ok.ensures.protocol c.requires.ranges.command c.answer_on.result c.answer_on.ensures.accepted c.answer_on.ensures.reported c.answer_on.ensures.counted
 
 pub returns-in-Err-clause-refused : goal.returns-in-Err-clause-refused
 returns-in-Err-clause-refused c =

@@ -1,4 +1,4 @@
-use Rattle.std.proofs.Common.{◌≡◌, ℕ, List, true, false, sym, ◌∙◌, ap}
+use Rattle.std.proofs.Common.{◌≡◌, true, false, sym, ◌∙◌, ap}
 use Rattle.dai_top.specs.Bounds.{same_name}
 use Rattle.dai_top.proofs.Sorts.{bound_here, bound_passed, bound_none}
 use Rattle.dai_top.proofs.bounds.bound_of.Goals as goal

@@ -1,4 +1,4 @@
-use Rattle.std.proofs.Common.{◌≡◌, ◌+◌, ◌-◌, ◌≤◌, length, take, drop, arith, inl, inr, refl, ap, subst, Err}
+use Rattle.std.proofs.Common.{◌≡◌, ◌+◌, ◌-◌, take, drop, arith, inl, inr, refl, ap, subst, Err}
 use Rattle.dai_base.specs.Sink.{Appends, IsPutOf}
 use Rattle.dai_base.specs.declared.sink.PutError.{PutError}
 use Rattle.dai_top.proofs.Puts.{put_more, put_part, left_length, rises_from}

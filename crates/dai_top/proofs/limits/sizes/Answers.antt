@@ -1,7 +1,7 @@
-use Rattle.std.proofs.Common.{◌≡◌, ℕ, length, map, arith, ◌∙◌, ap}
+use Rattle.std.proofs.Common.{length, arith, ◌∙◌, ap}
 use Rattle.std.proofs.lemmas.List.{length-map}
 use Rattle.dai_model.specs.Clause.{numbers_below}
-use Rattle.dai_model.specs.Sizes.{size_bound, size_bounds}
+use Rattle.dai_model.specs.Sizes.{size_bound}
 use Rattle.dai_logic.specs.Parts.{sort_of}
 use Rattle.dai_logic.specs.Protocols.{protocol_of}
 use Rattle.dai_top.proofs.Sorts.{numbers_length}

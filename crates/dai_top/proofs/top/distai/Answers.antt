@@ -1,4 +1,4 @@
-use Rattle.std.proofs.Common.{◌≡◌, ℕ, List, inl, inr, refl, sym, ◌∙◌, ap, subst, ⊎_elim}
+use Rattle.std.proofs.Common.{◌≡◌, inl, inr, refl, sym, ◌∙◌, ap, subst, ⊎_elim}
 use Rattle.dai_words.specs.Refusals.{Refusal}
 use Rattle.dai_words.specs.Words.{Choices}
 use Rattle.dai_words.specs.Readings.{texts, choices_of}
@@ -29,5 +29,5 @@ returns-in-Err-Bad-clause-refused_words g c = λ r read.
 
 pub returns-in-Err-Spent-clause-answered : goal.returns-in-Err-Spent-clause-answered
 returns-in-Err-Spent-clause-answered g c = λ given held bytes x read told there h.
-    ⊎_elim (λ two. inl (two, refl, inr (inr (refl, part_none (g.E.Sink.written c.args.err.now) x.err)))) (λ zero. inr (inl (zero, refl, inr (inr (refl, part_none (g.O.Sink.written c.args.out.now) x.out)))))
+    ⊎_elim (λ two. inl (two, refl, inr (inr (refl, part_none (g.E.Sink.written c.args.err.now) x.err)))) (λ low. inr (inl (low, refl, inr (inr (refl, part_none (g.O.Sink.written c.args.out.now) x.out)))))
     (refused_or_done given bytes x h)

@@ -1,14 +1,15 @@
-use Rattle.std.proofs.Common.{◌≡◌, ◌<◌, ℕ, List, length, Option, Err, inl, inr, refl, ap, subst, ⊎_elim}
+use Rattle.std.proofs.Common.{◌<◌, ℕ, List, length, Option, Err, inl, inr, refl, sym, ◌∙◌, ap, subst, ⊎_elim}
 use Rattle.std.specs.Prelude.{IsSomeAnd}
 use Rattle.dai_base.specs.Fault.{fault_text}
 use Rattle.dai_base.specs.Files.{Holdings, IsReadOf}
 use Rattle.dai_base.specs.Sink.{Appends}
 use Rattle.dai_base.specs.declared.fault.Fault.TheVariants.{TooLong}
 use Rattle.dai_base.specs.declared.files.ReadError.{ReadError}
-use Rattle.dai_top.specs.Answers.{refusal, IsAnswerTo, long_file}
+use Rattle.dai_top.specs.Answers.{Answer, refusal, IsAnswerTo, long_file}
+use Rattle.dai_top.specs.Outcome.{IsTold}
 use Rattle.dai_top.proofs.Held.{at_some, some_and, told_two}
 use Rattle.dai_words.specs.Readings.{choices_of}
-use Rattle.dai_top.proofs.OneAnswer.{refused_or_done}
+use Rattle.dai_top.proofs.OneAnswer.{refused_or_done, long_answer}
 use Rattle.dai_top.proofs.Puts.{part_none}
 use Rattle.dai_top.proofs.top.run.Goals as goal
 
@@ -31,7 +32,20 @@ returns-in-Err-TooLong-clause-refused g c = λ two.
       },
     )
 
+pub returns-in-Err-TooLong-clause-answered : goal.returns-in-Err-TooLong-clause-answered
+returns-in-Err-TooLong-clause-answered g c = λ held bytes x told there h.
+    let name = c.as_str-name.ensures.value in
+    let choices = choices_of c.args.settings.now in
+    let Q : Holdings → Type 0 = λ files. IsReadOf (files c.as_str-name.result.now) 1048576 (g.F.Files.faults c.args.files.now) (g.F.Files.faults c.read_all.new.self) (Err c.in-Err-TooLong.field-0) in
+    let read = at_some Q (g.F.Files.held c.args.files.now) held c.in-Err-TooLong.ensures.told told in
+    let R : ReadError → Type 0 = λ error. IsReadOf (held c.as_str-name.result.now) 1048576 (g.F.Files.faults c.args.files.now) (g.F.Files.faults c.read_all.new.self) (Err error) in
+    let long = (subst R c.in-Err-TooLong.field-0-is read).0 in
+    let S : Option (List ℕ) → Type 0 = λ o. IsSomeAnd o (λ bytes. 1048576 < length bytes) in
+    let same = long_answer choices bytes x (subst S (ap held name ∙ there) long) h in
+    let T : List ℕ → Type 0 = λ text. IsTold text 2 (g.E.Sink.written c.args.err.now) (g.E.Sink.written c.tell.new.sink) (g.E.Sink.faults c.args.err.now) (g.E.Sink.faults c.tell.new.sink) c.tell.result in
+    inl (sym (ap (λ (y : Answer). y.status) same), refl, subst T (ap (λ n. fault_text n TooLong) name ∙ ap (λ (y : Answer). y.err) same) c.tell.ensures)
+
 pub returns-in-Err-Spent-clause-answered : goal.returns-in-Err-Spent-clause-answered
 returns-in-Err-Spent-clause-answered g c = λ held bytes x told there h.
-    ⊎_elim (λ two. inl (two, refl, inr (inr (refl, part_none (g.E.Sink.written c.args.err.now) x.err)))) (λ zero. inr (inl (zero, refl, inr (inr (refl, part_none (g.O.Sink.written c.args.out.now) x.out)))))
+    ⊎_elim (λ two. inl (two, refl, inr (inr (refl, part_none (g.E.Sink.written c.args.err.now) x.err)))) (λ low. inr (inl (low, refl, inr (inr (refl, part_none (g.O.Sink.written c.args.out.now) x.out)))))
     (refused_or_done (choices_of c.args.settings.now) bytes x h)

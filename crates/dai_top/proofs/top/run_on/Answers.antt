@@ -1,23 +1,21 @@
-use Rattle.std.proofs.Common.{◌≡◌, ℕ, List, inl, inr, refl, sym, ◌∙◌, ap, subst, arith, ⊎_elim}
+use Rattle.std.proofs.Common.{◌≤◌, ℕ, List, inl, inr, refl, sym, ◌∙◌, ap, subst, ⊎_elim}
 use Rattle.dai_base.specs.Fault.{fault_text}
 use Rattle.dai_words.specs.Readings.{choices_of}
 use Rattle.dai_top.specs.Answers.{Answer, refusal}
 use Rattle.dai_top.specs.Outcome.{IsTold}
 use Rattle.dai_top.specs.declared.stop.Stop.{Stop}
-use Rattle.dai_top.specs.Stops.{IsStop}
-use Rattle.dai_top.proofs.OneAnswer.{OneVerdict, one_answer, refused_or_done, done_by}
+use Rattle.dai_top.specs.Stops.{IsStop, answer_of}
+use Rattle.dai_top.proofs.OneAnswer.{OneVerdict, one_answer, refused_or_done}
 use Rattle.dai_top.proofs.Puts.{part_none}
 use Rattle.dai_top.proofs.top.run_on.Goals as goal
 
 pub returns-in-Ok-clause-answered : goal.returns-in-Ok-clause-answered
 returns-in-Ok-clause-answered g c = λ x h.
     let laws : OneVerdict = record { fault = c.one_verdict.ensures.fault; protocol = c.one_verdict.ensures.protocol; never_both = c.one_verdict.ensures.never_both } in
-    let same = done_by (choices_of c.args.settings.now) c.args.bytes.now c.in-Ok.answer x laws c.requires.ranges.command c.in-Ok.ensures.counted c.in-Ok.ensures.reported h in
+    let same = one_answer laws (choices_of c.args.settings.now) c.args.bytes.now (answer_of c.in-Ok.answer) x c.in-Ok.ensures.answered h in
     let T : ℕ → List ℕ → Type 0 = λ status text. IsTold text status (g.O.Sink.written c.args.out.now) (g.O.Sink.written c.put_lines.new.sink) (g.O.Sink.faults c.args.out.now) (g.O.Sink.faults c.put_lines.new.sink) c.put_lines.result in
     let told : T x.status x.out = subst (λ (y : Answer). T y.status y.out) same (subst (T c.in-Ok.answer.status) c.as_slice.ensures.value c.put_lines.ensures) in
-    let low = c.in-Ok.ensures.status in
-    let own = ap (λ (y : Answer). y.status) same in
-    ⊎_elim (λ two. absurd (let e : c.in-Ok.answer.status ≡ 2 = own ∙ two in omega (arith, e, low))) (λ zero. inr (zero, refl, subst (λ n. T n x.out) zero told)) (refused_or_done (choices_of c.args.settings.now) c.args.bytes.now x h)
+    inr (subst (λ (y : Answer). y.status ≤ 1) same c.in-Ok.ensures.status, refl, told)
 
 pub returns-in-Err-Fault-clause-answered : goal.returns-in-Err-Fault-clause-answered
 returns-in-Err-Fault-clause-answered g c = λ x h.
@@ -31,5 +29,5 @@ returns-in-Err-Fault-clause-answered g c = λ x h.
 
 pub returns-in-Err-Spent-clause-answered : goal.returns-in-Err-Spent-clause-answered
 returns-in-Err-Spent-clause-answered g c = λ x h.
-    ⊎_elim (λ two. inl (two, refl, inr (inr (refl, part_none (g.E.Sink.written c.args.err.now) x.err)))) (λ zero. inr (zero, refl, inr (inr (refl, part_none (g.O.Sink.written c.args.out.now) x.out))))
+    ⊎_elim (λ two. inl (two, refl, inr (inr (refl, part_none (g.E.Sink.written c.args.err.now) x.err)))) (λ low. inr (low, refl, inr (inr (refl, part_none (g.O.Sink.written c.args.out.now) x.out))))
     (refused_or_done (choices_of c.args.settings.now) c.args.bytes.now x h)

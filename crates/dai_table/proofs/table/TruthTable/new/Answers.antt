@@ -1,14 +1,23 @@
-use Rattle.std.proofs.Common.{arith}
+use Rattle.std.proofs.Common.{refl, sym, subst, length}
 use Rattle.std.proofs.lemmas.List.{length-map}
 use Rattle.dai_logic.specs.Protocols.{protocol_of}
 use Rattle.dai_logic.proofs.Accepted.{is_protocol}
-use Rattle.dai_table.proofs.Fitting.{state_fits}
+use Rattle.dai_table.specs.Steps.{AreSteps, AreActionSteps, flags_in, lists_in}
+use Rattle.dai_table.proofs.Valued.{items}
 use Rattle.dai_table.proofs.table.TruthTable.new.Goals as goal
 
-pub holds_each-requires : goal.holds_each-requires
-holds_each-requires c =
-    state_fits (protocol_of c.args.protocol.now) c.in_ok-s.s c.len-flags.result (is_protocol c.args.protocol.now) c.requires c.in_ok-s.ensures (rw length-map (omega (arith, c.len-flags.ensures, c.args.protocol.now.relations.ok.0)))
+pub steps_by-requires-clause-block : goal.steps_by-requires-clause-block
+steps_by-requires-clause-block c = record { named = (protocol_of c.args.protocol.now).init; is = refl }
 
-pub add_state-requires : goal.add_state-requires
-add_state-requires c =
-    state_fits (protocol_of c.args.protocol.now) c.in_ok-s.s c.len-flags.result (is_protocol c.args.protocol.now) c.requires c.in_ok-s.ensures (rw length-map (omega (arith, c.len-flags.ensures, c.args.protocol.now.relations.ok.0)))
+pub returns : goal.returns
+returns c =
+    let P = protocol_of c.args.protocol.now in
+    let states = c.in_ok-states.states.items in
+    let init = c.in_ok-init.init.items in
+    record {
+      flags = c.requires;
+      protocol = is_protocol c.args.protocol.now;
+      states_of = c.in_ok-states.ensures;
+      init_steps = subst (λ n. AreSteps P P.init (flags_in states) n init) (sym (length-map states items)) (subst (λ xs. AreSteps P P.init (flags_in xs) (length xs) init) c.deref.ensures.value (c.in_ok-init.ensures P.init refl));
+      action_steps = subst (λ xs. AreActionSteps P (flags_in xs) (length P.actions) (lists_in c.in_ok-actions.actions.items)) c.deref-2.ensures.value c.in_ok-actions.ensures;
+    }
