@@ -5,6 +5,8 @@ mod answers;
 mod bounds;
 mod console;
 mod limits;
+#[cfg(test)]
+mod logged;
 mod report;
 mod stop;
 #[cfg(test)]

@@ -1,5 +1,10 @@
+use crate::logged::Logged;
+use crate::report::report;
 use crate::top::distai;
 use dai_base::{Files, SureFiles, SureSink};
+use dai_front::read_protocol;
+use dai_table::{MOST_FLAGS, TruthTable};
+use dai_template::Space;
 use std::alloc::Global;
 use std::test::Fail;
 
@@ -13,11 +18,13 @@ const LOCK: &str =
     "#lang ivy1.7\ntype client\ntype server\nrelation link(X:client, Y:server)\nrelation semaphore(X:server)\nafter init {\n  semaphore(W) := true;\n  link(X,Y) := false\n}\naction connect(x:client, y:server) = {\n  require semaphore(y);\n  link(x,y) := true;\n  semaphore(y) := false\n}\naction disconnect(x:client, y:server) = {\n  require link(x,y);\n  link(x,y) := false;\n  semaphore(y) := true\n}\nexport connect\nexport disconnect\ninvariant [safety] link(X,Y) & link(Z,Y) -> X = Z\n";
 
 /// The files that are held.
-const HELD: [(&str, &str); 15] = [
+const HELD: [(&str, &str); 17] = [
     ("ab.ivy", TWO_FLAGS),
     ("swap.ivy", SWAP),
     ("none.ivy", "relation p\naxiom p & ~p\n"),
     ("empty.ivy", ""),
+    ("unlabelled.ivy", "invariant false\n"),
+    ("labelled.ivy", "invariant [1000] false\n"),
     ("typed.ivy", "type t\n"),
     ("twice.ivy", "relation p\nrelation p\n"),
     ("untyped.ivy", "type t\ninvariant X = Y"),
@@ -38,7 +45,7 @@ const HELD: [(&str, &str); 15] = [
 ];
 
 /// Words, and the status, `out` and `err` that answer them.
-const ROWS: [(&str, u8, &str, &str); 27] = [
+const ROWS: [(&str, u8, &str, &str); 29] = [
     (
         "infer ab.ivy --lits 2",
         0,
@@ -47,6 +54,8 @@ const ROWS: [(&str, u8, &str, &str); 27] = [
     ),
     ("infer ab.ivy --lits 1", 1, "NOT FOUND excl\n", ""),
     ("infer empty.ivy", 0, "FOUND\n", ""),
+    ("infer unlabelled.ivy", 1, "NOT FOUND 1\n", ""),
+    ("infer labelled.ivy", 1, "NOT FOUND 1000\n", ""),
     (
         "infer typed.ivy",
         2,
@@ -190,5 +199,30 @@ fn answers_and_refusals(rt: HostRuntime) -> Result<(), Fail> {
         assert_eq!(rt; out.bytes(), out_text.as_bytes(), "{line}");
         assert_eq!(rt; err.bytes(), err_text.as_bytes(), "{line}");
     }
+    Ok(())
+}
+
+const THREE_FLAGS: &str =
+    "relation a\nrelation b\nrelation c\nafter init { a := false; b := false; c := false }\n";
+
+#[test]
+fn a_strike_spares_questions(rt: HostRuntime) -> Result<(), Fail> {
+    let alloc = rt.alloc();
+    let protocol = read_protocol(alloc, THREE_FLAGS.as_bytes())
+        .ok()
+        .ok_or("no protocol")?;
+    if !protocol.sorts.is_empty() || protocol.relations.len() > MOST_FLAGS {
+        return Err("no file of flags".into());
+    }
+    let space = Space::new(alloc, &protocol, &[], 1).ok().ok_or("no space")?;
+    let table = TruthTable::new(alloc, &protocol)?;
+    let mut logged = Logged {
+        table,
+        log: Vec::new(alloc),
+    };
+    let answer = report(alloc, &mut logged, &protocol, &space)?;
+    assert_eq!(rt; logged.log.as_slice(), b"|i|iiii|iii|".as_slice());
+    let lines = "invariant [d1] ~a\ninvariant [d2] ~b\ninvariant [d3] ~c\nFOUND\n";
+    assert_eq!(rt; answer.out.as_slice(), lines.as_bytes());
     Ok(())
 }
