@@ -4,7 +4,7 @@ use Rattle.std.specs.Prelude.{slice_index}
 use Rattle.std.specs.List.{Contains, remove}
 use Rattle.std.specs.declared.cmp.Ordering.TheVariants.{Less, Equal}
 use Rattle.std.proofs.lemmas.Bool.{cases_lt, cases_eq}
-use Rattle.std.proofs.lemmas.List.{length-map, get_or-map}
+use Rattle.std.proofs.lemmas.List.{length-map, get_or-map, get_or_default}
 use Rattle.std.proofs.lemmas.List.Elements.{All-from_get_or}
 use Rattle.std.proofs.lemmas.List.Edits.{length-remove, get_or-remove_below, get_or-remove_above}
 use Rattle.std.proofs.lemmas.Cmp.{tied_itself}
@@ -26,10 +26,11 @@ use Rattle.dai_template.specs.declared.space.Space.{Space}
 use Rattle.dai_template.specs.Spaces.{IsClauseOf, clause_of}
 use Rattle.dai_template.specs.Lists.{clauses_of, Comes}
 use Rattle.dai_template.specs.Renamings.{IsCanonicalForm}
-use Rattle.dai_order.specs.Forms.{AreForms, IsPlaceOf, StandsAt}
+use Rattle.dai_order.specs.Forms.{IsForm, AreForms, IsPlaceOf, StandsAt}
 use Rattle.dai_order.specs.Antichains.{StandsFor}
 use Rattle.dai_order.specs.Parts.{IsBelowEvenly, IsImageOfOne, IsBelowFrom, IsBelowBut, IsBelowWithout, IsWithoutVariable, LeavesOutNone}
 use Rattle.dai_order.proofs.Entering.{print_total, renaming_trans}
+use Rattle.dai_order.proofs.Unrelated.{each_place}
 use Rattle.dai_order.proofs.Gaining.{member_form, member_template}
 
 -- a canonical form that does not stand at its place is no member
@@ -292,3 +293,24 @@ either_way a b = by_order (cases_lt a b)
     by_order : (a < b) ⊎ (b ≤ a) → (a ≤ b) ⊎ (b ≤ a)
     by_order (inl below) = inl (omega (arith, below))
     by_order (inr above) = inr above
+
+-- none of the first so many members is below the clause
+abbrev AreNoneBelow : Protocol → Space → List Clause → Clause → ℕ → Type 0
+AreNoneBelow P space members clause n = (k : ℕ) (d : Clause) → k < n → Subsumes P (clause_of space (get_or members k d)) (clause_of space clause) → ⊥
+
+pub none_below_more : (P : Protocol) (B : Bounds) (space : Space) (members : List Clause) (clause : Clause) (n : ℕ) (item : Clause) → AreForms P B space members → n < length members → item ≡ get_or members n item → AreNoneBelow P space members clause n → (IsClauseOf P B space item → Subsumes P (clause_of space item) (clause_of space clause) → ⊥) → AreNoneBelow P space members clause (n + 1)
+none_below_more P B space members clause n item forms inside is before none k d below sub = by_place (cases_lt k n)
+  where
+    form : IsClauseOf P B space item
+    form = (each_place (IsForm P B space) members n item forms.each inside is).of_the_space
+
+    by_place : (k < n) ⊎ (n ≤ k) → ⊥
+    by_place (inl early) = before k d early sub
+    by_place (inr late) =
+        let last : k ≡ n = omega (arith, late, below) in
+        none form (subst (λ x. Subsumes P (clause_of space x) (clause_of space clause)) (ap (λ j. get_or members j d) last ∙ (get_or_default members n d item inside ∙ sym is)) sub)
+
+pub none_stands : (P : Protocol) (space : Space) (members : List Clause) (clause : Clause) → AreNoneBelow P space members clause (length members) → StandsFor P (clauses_of space members) (clause_of space clause) → ⊥
+none_stands P space members clause none s =
+    let below : s.listed.0 < length members = let long = length-map members (clause_of space) in let k = s.listed.1 in omega (arith, long, k) in
+    none s.listed.0 clause below (subst (λ m. Subsumes P m (clause_of space clause)) (sym (sym (get_or-map (clause_of space) members s.listed.0 clause s.member below) ∙ s.listed.2)) s.below)

@@ -19,18 +19,37 @@ ghost use Rattle.dai_order.specs.Parts.{IsBelowEvenly, IsBelowFrom, IsWithoutVar
 
 use crate::forms::{place_of, stands_at};
 use crate::literals::put;
-use crate::subsumption::atom_may_go;
+use crate::subsumption::{atom_may_go, subsumes};
 use crate::variables::{has_one_more, insertion};
 use arrayvec::ArrayVec;
 use dai_template::{Atom, Clause, Shape, Space};
 
-/// Whether one of the members is below the clause.
+/// Whether one of the members is below the clause. It asks them one after the other where they are no more than the
+/// clause's sets of literals, and else looks for each part of the clause among them.
 pub fn is_above_one(space: &Space, clause: &Clause, members: &[Clause]) -> bool
     requires { IsBesideForms space.now clause.now members.now }
     ensures some { (P : Protocol) (B : Bounds) → IsClauseOf P B space.now clause.now → AreForms P B space.now members.now → result ≡ true → StandsFor P (clauses_of space.now members.now) (clause_of space.now clause.now) }
     ensures none { (P : Protocol) (B : Bounds) → IsClauseOf P B space.now clause.now → AreForms P B space.now members.now → result ≡ false → StandsFor P (clauses_of space.now members.now) (clause_of space.now clause.now) → ⊥ }
 {
-    is_above_from(space, clause, 0, members)
+    if members.len() <= 1 << clause.lits.len() {
+        some_is_below(space, clause, members)
+    } else {
+        is_above_from(space, clause, 0, members)
+    }
+}
+
+/// Whether some member is below the clause, asked of one after the other.
+fn some_is_below(space: &Space, clause: &Clause, members: &[Clause]) -> bool
+    requires { IsBesideForms space.now clause.now members.now }
+    ensures some { (P : Protocol) (B : Bounds) → IsClauseOf P B space.now clause.now → AreForms P B space.now members.now → result ≡ true → StandsFor P (clauses_of space.now members.now) (clause_of space.now clause.now) }
+    ensures none { (P : Protocol) (B : Bounds) → IsClauseOf P B space.now clause.now → AreForms P B space.now members.now → result ≡ false → StandsFor P (clauses_of space.now members.now) (clause_of space.now clause.now) → ⊥ }
+{
+    for member in members {
+        if subsumes(space, member, clause) {
+            return true;
+        }
+    }
+    false
 }
 
 /// Whether a part of the clause that has its literals before this place is a member.
