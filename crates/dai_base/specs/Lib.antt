@@ -5,3 +5,6 @@ pub mod Files
 pub mod Sink
 pub mod SureFiles
 pub mod SureSink
+pub mod FaultPlan
+pub mod MemFiles
+pub mod MemSink

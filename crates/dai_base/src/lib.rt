@@ -3,7 +3,10 @@
 #![tactic(auto)]
 
 pub mod fault;
+mod fault_plan;
 pub mod files;
+pub mod mem_files;
+pub mod mem_sink;
 pub mod memory;
 pub mod message;
 pub mod position;
@@ -14,6 +17,8 @@ pub mod text;
 
 pub use fault::{Fault, LimitKind, Place};
 pub use files::{Files, ReadError};
+pub use mem_files::MemFiles;
+pub use mem_sink::MemSink;
 pub use memory::Spent;
 pub use message::fault_line;
 pub use position::place;

@@ -49,6 +49,13 @@ impl SureSink {
         Ok(())
     }
 
+    /// Lowers the spare room by this many bytes, or to 0.
+    pub(crate) fn forfeit(&mut self, bytes: usize)
+        ensures { self.new ≡ record { bytes = self.old.bytes; spare = self.old.spare - bytes } }
+    {
+        self.reserved = self.reserved.saturating_sub(bytes);
+    }
+
     /// All bytes that were written.
     pub fn bytes(&self) -> &[u8]
         ensures { result.now ≡ self.now.bytes }

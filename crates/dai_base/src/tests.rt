@@ -4,6 +4,8 @@ ghost use Rattle.dai_base.specs.Fault.{IsListed};
 
 use crate::fault::{Fault, LimitKind, Place};
 use crate::files::{Files, ReadError};
+use crate::mem_files::MemFiles;
+use crate::mem_sink::MemSink;
 use crate::message::fault_line;
 use crate::position::place;
 use crate::sink::{PutError, Sink};
@@ -131,6 +133,48 @@ fn reads_and_writes(rt: HostRuntime) -> Result<(), Fail> {
         assert_eq!(rt; copied(&mut files, &mut sink, name), want, "at {name}");
     }
     assert_eq!(rt; sink.bytes(), b"fourfour".as_slice());
+    Ok(())
+}
+
+#[test]
+fn listed_reads_fail(rt: HostRuntime) -> Result<(), Fail> {
+    let alloc = rt.alloc();
+    let mut files = MemFiles::new(alloc);
+    let mut sink = SureSink::new(alloc);
+    files.hold("a", b"four")?;
+    for call in [0, 2, 2, 5] {
+        files.fail_at(call)?;
+    }
+    for (name, want) in [("a", 3), ("a", 0), ("b", 3), ("b", 1)] {
+        assert_eq!(rt; copied(&mut files, &mut sink, name), want, "at {name}");
+    }
+    files.fail_at(1)?;
+    files.hold("b", b"seven")?;
+    for (name, want) in [("b", 2), ("a", 3), ("a", 0)] {
+        assert_eq!(rt; copied(&mut files, &mut sink, name), want, "at {name}");
+    }
+    assert_eq!(rt; sink.bytes(), b"fourfour".as_slice());
+    Ok(())
+}
+
+/// What a listed put takes, and what a sink with "ab" holds after a put of "four" that is listed so.
+const PARTS: [(usize, &[u8]); 4] = [(0, b"ab"), (3, b"abfou"), (4, b"abfour"), (9, b"abfour")];
+
+#[test]
+fn listed_puts_fail(rt: HostRuntime) -> Result<(), Fail> {
+    let alloc = rt.alloc();
+    for (taken, want) in PARTS.iter() {
+        let mut sink = MemSink::new(alloc);
+        sink.reserve(8)?;
+        sink.fail_at(1, 1)?;
+        sink.fail_at(1, *taken)?;
+        assert!(rt; sink.put(b"ab").is_ok());
+        sink.fail_at(0, 0)?;
+        assert!(rt; sink.put(b"four") == Err(PutError::Failed));
+        assert_eq!(rt; sink.bytes(), *want, "at {taken}");
+        assert!(rt; sink.put(b"c").is_ok());
+        assert_eq!(rt; sink.bytes().len(), want.len() + 1, "at {taken}");
+    }
     Ok(())
 }
 
