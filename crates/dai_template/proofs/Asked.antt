@@ -1,12 +1,14 @@
 -- From a space's clause to the search, and back.
-use Rattle.std.proofs.Common.{◌≡◌, ◌↔◌, ◌<◌, ◌*◌, ℕ, Bool, List, length, get_or, map, sym, ap, ◌∙◌, subst, arith, inl, inr}
+use Rattle.std.proofs.Common.{◌≡◌, ◌↔◌, ◌<◌, ◌≤◌, ◌+◌, ◌*◌, ℕ, Bool, true, false, List, length, get_or, map, drop, refl, ◌⊎◌, sym, ap, ◌∙◌, subst, arith, inl, inr}
 use Rattle.std.specs.Prelude.{slice_index}
 use Rattle.std.specs.List.{list_any}
 use Rattle.std.proofs.lemmas.Bool.{cases_lt}
 use Rattle.std.proofs.Math.ListN.{replicate}
+use Rattle.std.proofs.lemmas.List.{get_or-replicate, get_or_past}
 use Rattle.dai_model.specs.Protocol.{Protocol}
 use Rattle.dai_model.specs.Placement.{ArePlacements}
 use Rattle.dai_model.specs.Clause.{atoms_of, literal_among, literal_value, Meets}
+use Rattle.dai_model.specs.Clause as Model
 use Rattle.dai_model.specs.Template.{Bounds}
 use Rattle.dai_logic.specs.declared.structure.Structure.{Structure}
 use Rattle.dai_logic.specs.Tables.{structure_of, Fits}
@@ -15,7 +17,8 @@ use Rattle.dai_template.specs.declared.clause.Shape.{Shape}
 use Rattle.dai_template.specs.declared.space.Space.{Space}
 use Rattle.dai_template.specs.Atoms.{atom_of}
 use Rattle.dai_template.specs.Spaces.{IsClauseOf, clause_of}
-use Rattle.dai_template.specs.Meeting.{Before, IsBegun, IsJudged, IsMetFrom}
+use Rattle.dai_template.specs.Meeting.{Before, IsBegun, IsBound, AreEnough, IsPartial, IsJudged, IsMetFrom}
+use Rattle.dai_template.proofs.Completed.{enough}
 use Rattle.dai_template.proofs.Clauses.{small, shape_counts, shape_atoms, clause_writable}
 
 pub judged_of : (P : Protocol) (B : Bounds) (space : Space) (clause : Clause) (shape : Shape) (s : Structure) (ordered : List Bool) (literals : List ℕ) → IsClauseOf P B space clause → Fits P s → shape ≡ get_or space.shapes.items clause.shape shape → ordered ≡ space.ordered.items → literals ≡ clause.lits.items → IsJudged P ordered shape.counts.items (map atom_of shape.atoms.items) literals s
@@ -46,10 +49,38 @@ begun_none P sizes counts values long = record {
   apart = λ t T i j e h k before. absurd (none_before t j before);
 }
 
-pub met_is : (P : Protocol) (B : Bounds) (space : Space) (clause : Clause) (shape : Shape) (s : Structure) (literals values : List ℕ) → IsClauseOf P B space clause → shape ≡ get_or space.shapes.items clause.shape shape → literals ≡ clause.lits.items → IsMetFrom P shape.counts.items (map atom_of shape.atoms.items) literals s 0 0 values ↔ Meets P (structure_of P s) (clause_of space clause)
+-- before any variable has its element
+abbrev pub unbound : List Bool
+unbound = replicate {A = Bool} 32 false
+
+pub none_bound : (t i : ℕ) → IsBound unbound (record { sort = t; number = i }) → ⊥
+none_bound t i b = either (cases_lt (4 * t + i) 32)
+  where
+    either : (4 * t + i < 32) ⊎ (32 ≤ 4 * t + i) → ⊥
+    either (inl below) = let k : false ≡ true = sym (get_or-replicate 32 (4 * t + i) false false below) ∙ b in let no : ⊥ = cc in no
+    either (inr past) = let k : false ≡ true = sym (get_or_past unbound (4 * t + i) false past) ∙ b in let no : ⊥ = cc in no
+
+pub partial_none : (P : Protocol) (sizes counts values : List ℕ) → length values ≡ 32 → IsPartial P sizes counts unbound values
+partial_none P sizes counts values long = record {
+  places = refl;
+  long = long;
+  inside = λ t i h b. absurd (none_bound t i b);
+  room = λ t T i f h b. absurd (none_bound t i b);
+  spaced = λ t T i j f h k b c. absurd (none_bound t i b);
+}
+
+pub enough_as : (xs ys counts sizes : List ℕ) → xs ≡ counts → ys ≡ sizes → AreEnough xs ys → AreEnough counts sizes
+enough_as xs ys counts sizes p q h = subst (λ k. AreEnough k sizes) p (subst (AreEnough xs) q h)
+
+-- where a type has fewer elements than variables there is no placement, and each clause is met
+pub met_by_none : (P : Protocol) (s : Structure) (counts : List ℕ) (c : Model.Clause) → length counts ≡ length P.sorts → c.counts ≡ counts → (AreEnough counts s.sizes.items → ⊥) → Meets P (structure_of P s) c
+met_by_none P s counts c each same few elements placed =
+    absurd (few (enough P s.sizes.items counts elements each (subst (λ k. ArePlacements P k s.sizes.items elements) same placed)))
+
+pub met_is : (P : Protocol) (B : Bounds) (space : Space) (clause : Clause) (shape : Shape) (s : Structure) (literals values : List ℕ) → IsClauseOf P B space clause → shape ≡ get_or space.shapes.items clause.shape shape → literals ≡ clause.lits.items → IsMetFrom P shape.counts.items (map atom_of shape.atoms.items) (drop 0 literals) s unbound values ↔ Meets P (structure_of P s) (clause_of space clause)
 met_is P B space clause shape s literals values h is l = (
   λ met elements placed.
-      sym (same elements) ∙ met elements (subst (λ counts. ArePlacements P counts s.sizes.items elements) (sym (shape_counts space clause shape h.shape is)) placed) (λ t i k before. absurd (none_before t i before)),
+      sym (same elements) ∙ met elements (subst (λ counts. ArePlacements P counts s.sizes.items elements) (sym (shape_counts space clause shape h.shape is)) placed) (λ t i k b. absurd (none_bound t i b)),
   λ meets elements placed agree.
       same elements ∙ meets elements (subst (λ counts. ArePlacements P counts s.sizes.items elements) (shape_counts space clause shape h.shape is) placed),
 )

@@ -11,8 +11,8 @@ use Rattle.dai_model.specs.Clause.{Atom, literal_among, literal_value}
 use Rattle.dai_model.proofs.Typed.{slice_get-length}
 use Rattle.dai_logic.specs.declared.structure.Structure.{Structure}
 use Rattle.dai_logic.specs.Tables.{structure_of}
-use Rattle.dai_template.specs.Meeting.{literal_in, Before, Agree, IsBegun, IsJudged, IsMetFrom, MayStand}
-use Rattle.dai_template.proofs.MetFrom.{at_end, count_inside}
+use Rattle.dai_template.specs.Meeting.{literal_in, Before, Agree, IsBegun, IsJudged, MayStand}
+use Rattle.dai_template.proofs.MetFrom.{count_inside}
 
 pub begun_end : (P : Protocol) (sizes counts : List ℕ) (sort number : ℕ) (values : List ℕ) → sort ≡ length counts → IsBegun P sizes counts sort number values → IsBegun P sizes counts (length counts) 0 values
 begun_end P sizes counts sort number values same b = record {
@@ -20,16 +20,6 @@ begun_end P sizes counts sort number values same b = record {
   inside = λ t i h before. b.inside t i h (inl (let k = count_inside counts t i h in omega (arith, k, same)));
   apart = λ t T i j e h k before. b.apart t T i j e h k (inl (let l = count_inside counts t j k in omega (arith, l, same)));
 }
-
-pub end_only : (P : Protocol) (orders : List Bool) (counts : List ℕ) (atoms : List Atom) (literals : List ℕ) (s : Structure) (sort number : ℕ) (values : List ℕ) (b : Bool) → sort ≡ length counts → IsJudged P orders counts atoms literals s → IsBegun P s.sizes.items counts sort number values → b ≡ list_any (literal_in (structure_of P s) values) (map (literal_among atoms) literals) → b ≡ true → IsMetFrom P counts atoms literals s sort number values
-end_only P orders counts atoms literals s sort number values b same j begun is h elements placed agree =
-    (at_end P orders counts atoms literals s values b j (begun_end P s.sizes.items counts sort number values same begun) is).0 h elements placed
-    (λ t i k before. agree t i k (inl (let l = count_inside counts t i k in omega (arith, l, same))))
-
-pub end_exact : (P : Protocol) (orders : List Bool) (counts : List ℕ) (atoms : List Atom) (literals : List ℕ) (s : Structure) (sort number : ℕ) (values : List ℕ) (b : Bool) → sort ≡ length counts → IsJudged P orders counts atoms literals s → IsBegun P s.sizes.items counts sort number values → b ≡ list_any (literal_in (structure_of P s) values) (map (literal_among atoms) literals) → IsMetFrom P counts atoms literals s sort number values → b ≡ true
-end_exact P orders counts atoms literals s sort number values b same j begun is h =
-    (at_end P orders counts atoms literals s values b j (begun_end P s.sizes.items counts sort number values same begun) is).1
-    (λ elements placed agree. h elements placed (λ t i k before. agree t i k (inl (count_inside counts t i k))))
 
 apart_places : (t i sort number : ℕ) → i < 4 → Before t i sort number → 4 * t + i ≢ 4 * sort + number
 apart_places t i sort number small (inl below) = λ e. omega (arith, small, below, e)
@@ -137,15 +127,6 @@ searched P orders counts atoms literals s j = record {
   few_types = j.few_types;
   few = j.few;
 }
-
-pub chosen_begun : (P : Protocol) (orders : List Bool) (counts : List ℕ) (atoms : List Atom) (literals : List ℕ) (s : Structure) (sort number e : ℕ) (values : List ℕ) → IsJudged P orders counts atoms literals s → IsBegun P s.sizes.items counts sort number values → number < slice_index counts sort → e < slice_index s.sizes.items sort → MayStand (get_or orders sort false) sort number e values → IsBegun P s.sizes.items counts sort (number + 1) (set values (4 * sort + number) e)
-chosen_begun P orders counts atoms literals s sort number e values j b room below may = choice_begun P orders counts s.sizes.items sort number e values (searched P orders counts atoms literals s j) b room below may
-
-pub chosen_exact : (P : Protocol) (orders : List Bool) (counts : List ℕ) (atoms : List Atom) (literals : List ℕ) (s : Structure) (sort number e : ℕ) (values : List ℕ) → IsJudged P orders counts atoms literals s → IsMetFrom P counts atoms literals s sort number values → IsMetFrom P counts atoms literals s sort (number + 1) (set values (4 * sort + number) e)
-chosen_exact P orders counts atoms literals s sort number e values j met = choice_exact P counts s.sizes.items (λ elements. list_any (literal_value (structure_of P s) elements) (map (literal_among atoms) literals) ≡ true) sort number e values j.few met
-
-pub chosen_only : (P : Protocol) (orders : List Bool) (counts : List ℕ) (atoms : List Atom) (literals : List ℕ) (s : Structure) (sort number : ℕ) (values : List ℕ) → IsJudged P orders counts atoms literals s → IsBegun P s.sizes.items counts sort number values → number < slice_index counts sort → ((e : ℕ) → e < slice_index s.sizes.items sort → MayStand (get_or orders sort false) sort number e values → IsMetFrom P counts atoms literals s sort (number + 1) (set values (4 * sort + number) e)) → IsMetFrom P counts atoms literals s sort number values
-chosen_only P orders counts atoms literals s sort number values j b room h = choice_only P orders counts s.sizes.items (λ elements. list_any (literal_value (structure_of P s) elements) (map (literal_among atoms) literals) ≡ true) sort number values (searched P orders counts atoms literals s j) b room h
 
 pub room_left : (counts : List ℕ) (sort number i n : ℕ) → sort < length counts → i ≡ sort → n ≡ get_or counts i n → number ≤ slice_index counts sort → (number ≡ n → ⊥) → number < slice_index counts sort
 room_left counts sort number i n below same is most other =

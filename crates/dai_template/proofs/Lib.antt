@@ -16,6 +16,11 @@ pub mod Read
 pub mod Truth
 pub mod MetFrom
 pub mod Choices
+pub mod Rooms
+pub mod Partial
+pub mod Completed
+pub mod ReadSoFar
+pub mod Unbound
 pub mod Asked
 pub mod Places
 pub mod Within

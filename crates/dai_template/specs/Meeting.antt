@@ -1,6 +1,6 @@
 -- Elements for the variables of a clause in one array, four places for each type.
-use Rattle.std.specs.Prelude.{◌≡◌, ℕ, ◌+◌, ◌*◌, ◌<◌, ◌≤◌, Bool, true, not, if◌then◌else◌, nat_eq, List, [], length, map, slice_index, slice_index_or, Some, slice_get, ◌⊎◌}
-use Rattle.std.specs.List.{All, list_any}
+use Rattle.std.specs.Prelude.{◌≡◌, ℕ, ◌+◌, ◌*◌, ◌<◌, ◌≤◌, Bool, true, false, ◌≢◌, not, if◌then◌else◌, nat_eq, List, [], length, map, slice_index, slice_index_or, Some, slice_get, ◌⊎◌}
+use Rattle.std.specs.List.{All, Contains, list_any}
 use Rattle.dai_model.specs.Protocol.{Protocol, Sort, Relation, Individual}
 use Rattle.dai_model.specs.Structure as Model
 use Rattle.dai_model.specs.Structure.{is_tuple}
@@ -65,18 +65,67 @@ pub record IsJudged (P : Protocol) (orders : List Bool) (counts : List ℕ) (ato
   pub few_types : length counts ≤ 8
   pub few : (t : ℕ) → slice_index counts t ≤ 4
 
--- whatever the other variables stand for, some literal is true
-abbrev pub IsMetFrom : Protocol → List ℕ → List Atom → List ℕ → Structure → ℕ → ℕ → List ℕ → Type 0
-IsMetFrom P counts atoms literals s sort number values = (elements : List (List ℕ)) → ArePlacements P counts s.sizes.items elements → Agree counts sort number elements values → list_any (literal_value (structure_of P s) elements) (map (literal_among atoms) literals) ≡ true
-
 -- the element may stand for this variable beside those of the variables before it
 abbrev pub MayStand : Bool → ℕ → ℕ → ℕ → List ℕ → Type 0
 MayStand ordered sort number e values = (i : ℕ) → i < number → Apart ordered (slice_index values (4 * sort + i)) e
 
--- what is asked of a search that has come to this variable
-pub record IsOpen (orders : List Bool) (counts : List ℕ) (atoms : List Atom) (literals : List ℕ) (s : Structure) (sort number : ℕ) (values : List ℕ) : Type 0 where
+-- a variable of the atom
+abbrev pub IsVariableIn : Variable → Atom → Type 0
+IsVariableIn v (tuple r vs) = Contains vs v
+IsVariableIn v (is_individual w i) = v ≡ w
+
+-- each variable of the atom
+abbrev pub AreAll : (Variable → Type 0) → Atom → Type 0
+AreAll Q (tuple r vs) = All Q vs
+AreAll Q (is_individual v i) = Q v
+
+-- the variable stands for the element in its place
+abbrev pub IsBound : List Bool → Variable → Type 0
+IsBound bound v = slice_index_or bound (4 * v.sort + v.number) false ≡ true
+
+-- at least as many elements of each type as variables
+abbrev pub AreEnough : List ℕ → List ℕ → Type 0
+AreEnough counts sizes = (t : ℕ) → slice_index counts t ≤ slice_index sizes t
+
+-- an ordered type has elements below and above for the variables before and after this one
+abbrev pub HasRoom : Bool → ℕ → ℕ → ℕ → ℕ → Type 0
+HasRoom true count size i e = (i ≤ e) × (e + count ≤ size + i)
+HasRoom false count size i e = Unit {0}
+
+-- two elements for two variables of one type, the first of them earlier: apart, and in an ordered type with room
+-- for the variables between
+abbrev pub AreSpaced : Bool → ℕ → ℕ → ℕ → ℕ → Type 0
+AreSpaced true i e j f = e + j ≤ f + i
+AreSpaced false i e j f = e ≢ f
+
+-- the same, whichever of them is earlier
+abbrev pub IsBeside : Bool → ℕ → ℕ → ℕ → ℕ → Type 0
+IsBeside ordered i e j f = (i < j → AreSpaced ordered i e j f) × (j < i → AreSpaced ordered j f i e)
+
+-- the element may stand for this variable beside those of the others, with room for all variables of the type
+abbrev pub LeavesRoom : Bool → ℕ → ℕ → ℕ → ℕ → ℕ → List Bool → List ℕ → Type 0
+LeavesRoom ordered count size sort number e bound values = HasRoom ordered count size number e × ((i : ℕ) → i < count → IsBound bound (record { sort = sort; number = i }) → IsBeside ordered number e i (slice_index values (4 * sort + i)))
+
+-- elements for some of the variables, with room for the others
+pub record IsPartial (P : Protocol) (sizes counts : List ℕ) (bound : List Bool) (values : List ℕ) : Type 0 where
+  pub places : length bound ≡ 32
+  pub long : length values ≡ 32
+  pub inside : (t i : ℕ) → i < slice_index counts t → IsBound bound (record { sort = t; number = i }) → slice_index values (4 * t + i) < slice_index sizes t
+  pub room : (t : ℕ) (T : Sort) (i : ℕ) → slice_get P.sorts t ≡ Some T → i < slice_index counts t → IsBound bound (record { sort = t; number = i }) → HasRoom T.ordered (slice_index counts t) (slice_index sizes t) i (slice_index values (4 * t + i))
+  pub spaced : (t : ℕ) (T : Sort) (i j : ℕ) → slice_get P.sorts t ≡ Some T → i < j → j < slice_index counts t → IsBound bound (record { sort = t; number = i }) → IsBound bound (record { sort = t; number = j }) → AreSpaced T.ordered i (slice_index values (4 * t + i)) j (slice_index values (4 * t + j))
+
+-- the elements are those of the array for the variables that have theirs there
+abbrev pub IsCompletion : List ℕ → List Bool → List ℕ → List (List ℕ) → Type 0
+IsCompletion counts bound values elements = (t i : ℕ) → i < slice_index counts t → IsBound bound (record { sort = t; number = i }) → slice_index (of_sort elements t) i ≡ slice_index values (4 * t + i)
+
+-- whatever the other variables stand for, some of the literals is true
+abbrev pub IsMetFrom : Protocol → List ℕ → List Atom → List ℕ → Structure → List Bool → List ℕ → Type 0
+IsMetFrom P counts atoms literals s bound values = (elements : List (List ℕ)) → ArePlacements P counts s.sizes.items elements → IsCompletion counts bound values elements → list_any (literal_value (structure_of P s) elements) (map (literal_among atoms) literals) ≡ true
+
+-- what is asked of a search that has come to this literal
+pub record IsOpen (orders : List Bool) (counts : List ℕ) (atoms : List Atom) (literals : List ℕ) (s : Structure) (at : ℕ) (bound : List Bool) (values : List ℕ) : Type 0 where
   pub protocol : Protocol
   pub judged : IsJudged protocol orders counts atoms literals s
-  pub begun : IsBegun protocol s.sizes.items counts sort number values
-  pub sort_inside : sort ≤ length counts
-  pub number_inside : number ≤ slice_index counts sort
+  pub partial : IsPartial protocol s.sizes.items counts bound values
+  pub enough : AreEnough counts s.sizes.items
+  pub inside : at ≤ length literals
