@@ -1,17 +1,15 @@
 -- One variable more has its element.
-use Rattle.std.proofs.Common.{◌≡◌, ◌≢◌, ◌<◌, ◌≤◌, ℕ, zero, suc, ◌+◌, ◌*◌, Bool, true, false, List, [], ◌∷◌, length, get_or, set, map, Some, sym, ap, ◌∙◌, refl, subst, arith, inl, inr, ◌⊎◌}
+use Rattle.std.proofs.Common.{◌≡◌, ◌≢◌, ◌<◌, ◌≤◌, ℕ, zero, suc, ◌+◌, ◌*◌, Bool, false, List, [], ◌∷◌, length, get_or, set, map, Some, sym, ap, ◌∙◌, refl, subst, arith, inl, inr, ◌⊎◌}
 use Rattle.std.specs.Prelude.{slice_index, slice_get}
-use Rattle.std.specs.List.{list_any}
 use Rattle.std.proofs.lemmas.Bool.{cases_lt}
 use Rattle.std.proofs.lemmas.List.{get_or-map, get_or-set_same, get_or-set_other, length-set, get_or_default}
 use Rattle.std.proofs.lemmas.Option.{get_or_from_slice_get}
 use Rattle.dai_model.specs.Protocol.{Protocol, Sort}
 use Rattle.dai_model.specs.Placement.{Apart, of_sort, ArePlacements}
-use Rattle.dai_model.specs.Clause.{Atom, literal_among, literal_value}
+use Rattle.dai_model.specs.Clause.{Atom}
 use Rattle.dai_model.proofs.Typed.{slice_get-length}
 use Rattle.dai_logic.specs.declared.structure.Structure.{Structure}
-use Rattle.dai_logic.specs.Tables.{structure_of}
-use Rattle.dai_template.specs.Meeting.{literal_in, Before, Agree, IsBegun, IsJudged, MayStand}
+use Rattle.dai_template.specs.Meeting.{Before, Agree, IsBegun, IsJudged, MayStand}
 use Rattle.dai_template.proofs.MetFrom.{count_inside}
 
 pub begun_end : (P : Protocol) (sizes counts : List ℕ) (sort number : ℕ) (values : List ℕ) → sort ≡ length counts → IsBegun P sizes counts sort number values → IsBegun P sizes counts (length counts) 0 values

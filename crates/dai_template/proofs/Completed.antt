@@ -9,7 +9,7 @@ use Rattle.dai_model.proofs.Counting.{IsOneToOne, no_fewer}
 use Rattle.dai_template.specs.Meeting.{IsBound, AreEnough, HasRoom, AreSpaced, LeavesRoom, IsPartial, IsCompletion, IsBegun}
 use Rattle.dai_template.proofs.MetFrom.{count_inside, cut, cut_at, cut_placed}
 use Rattle.dai_template.proofs.Choices.{IsSearched, sort_at}
-use Rattle.dai_template.proofs.Rooms.{room_found}
+use Rattle.dai_template.proofs.Rooms.{true_or_not, room_found}
 use Rattle.dai_template.proofs.Partial.{partial_more}
 
 -- more variables have their elements, those before a place among them
@@ -19,10 +19,6 @@ record IsFilled (P : Protocol) (sizes counts : List ℕ) (bound : List Bool) (va
   pub partial : IsPartial P sizes counts all elements
   pub keeps : (t i : ℕ) → i < slice_index counts t → IsBound bound (record { sort = t; number = i }) → IsBound all (record { sort = t; number = i }) × (slice_index elements (4 * t + i) ≡ slice_index values (4 * t + i))
   pub filled : (t i : ℕ) → i < slice_index counts t → 4 * t + i < k → IsBound all (record { sort = t; number = i })
-
-true_or_not : (b : Bool) → (b ≡ true) ⊎ (b ≡ true → ⊥)
-true_or_not true = inl refl
-true_or_not false = inr (λ e. let k : ⊥ = cc in k)
 
 fill : (P : Protocol) (orders : List Bool) (sizes counts : List ℕ) (bound : List Bool) (values : List ℕ) → IsSearched P orders counts → AreEnough counts sizes → IsPartial P sizes counts bound values → (k : ℕ) → k ≤ 32 → IsFilled P sizes counts bound values k
 fill P orders sizes counts bound values j enough h zero le = record {

@@ -1,22 +1,16 @@
 -- An array of elements for all variables is a placement.
-use Rattle.std.proofs.Common.{◌≡◌, ◌<◌, ◌≤◌, ℕ, zero, suc, ◌+◌, ◌*◌, ◌/◌, ◌&&◌, Bool, true, not, List, [], ◌∷◌, length, get_or, map, sym, ap, ◌∙◌, refl, subst, arith, inl}
-use Rattle.std.specs.Prelude.{slice_index, nat_eq, if◌then◌else◌}
-use Rattle.std.specs.List.{All, list_any}
+use Rattle.std.proofs.Common.{◌≡◌, ◌<◌, ℕ, zero, suc, ◌+◌, ◌*◌, ◌&&◌, Bool, true, List, [], ◌∷◌, length, map, sym, ap, ◌∙◌, refl, subst, arith, inl}
+use Rattle.std.specs.Prelude.{slice_index}
 use Rattle.std.proofs.lemmas.List.{get_or-map, length-map}
 use Rattle.dai_model.specs.Protocol.{Protocol}
-use Rattle.dai_model.specs.Structure as Model
 use Rattle.dai_model.specs.Structure.{is_tuple}
 use Rattle.dai_model.specs.Placement.{Apart, of_sort, ArePlacements}
-use Rattle.dai_model.specs.Clause.{Variable, Atom, tuple, is_individual, Literal, numbers_below, atoms_of, literal_among, value_at, atom_value, literal_value, no_atom}
-use Rattle.dai_model.proofs.Below.{Each, IsVariableOf, IsAtomOf, atoms_inside}
+use Rattle.dai_model.specs.Clause.{Variable, numbers_below}
+use Rattle.dai_model.proofs.Below.{Each, IsVariableOf}
 use Rattle.dai_model.proofs.Folds.{numbers_below-length, numbers_below-at}
 use Rattle.dai_model.proofs.Typed.{slice_get-length}
-use Rattle.dai_logic.specs.declared.structure.Structure.{Structure}
-use Rattle.dai_logic.specs.Tables.{structure_of, tuple_count, Fits}
-use Rattle.dai_logic.proofs.Tuples.{relation_known, test_from_lt}
-use Rattle.dai_template.specs.Meeting.{element_in, sorts_of, IsNamed, IsValued, atom_in, literal_in, IsBegun, IsJudged, IsMetFrom}
-use Rattle.dai_template.proofs.Named.{atoms_named}
-use Rattle.dai_template.proofs.Ways.{All-from_Each}
+use Rattle.dai_logic.proofs.Tuples.{test_from_lt}
+use Rattle.dai_template.specs.Meeting.{element_in, sorts_of, IsBegun}
 
 pub count_inside : (counts : List ℕ) (sort number : ℕ) → number < slice_index counts sort → sort < length counts
 count_inside [] sort number h = absurd (omega arith)

@@ -1,15 +1,14 @@
 -- Elements for some of the variables of a clause: one more has its element, and all have theirs in the end.
-use Rattle.std.proofs.Common.{◌≡◌, ◌≢◌, ◌<◌, ◌≤◌, ℕ, zero, suc, ◌+◌, ◌*◌, ◌/◌, ◌%◌, Bool, true, false, List, [], ◌∷◌, length, get_or, set, Some, sym, ap, ◌∙◌, refl, subst, arith, inl, inr, ◌⊎◌}
+use Rattle.std.proofs.Common.{◌≡◌, ◌≢◌, ◌<◌, ◌≤◌, ℕ, zero, suc, ◌+◌, ◌*◌, Bool, true, false, List, [], ◌∷◌, length, get_or, set, Some, sym, ap, ◌∙◌, refl, subst, arith, inl, inr, ◌⊎◌}
 use Rattle.std.specs.Prelude.{slice_index, slice_get}
-use Rattle.std.proofs.lemmas.Bool.{cases_lt, cases_eq}
+use Rattle.std.proofs.lemmas.Bool.{cases_eq}
 use Rattle.std.proofs.lemmas.List.{get_or-set_same, get_or-set_other, length-set}
 use Rattle.dai_model.specs.Protocol.{Protocol, Sort}
-use Rattle.dai_model.specs.Placement.{Apart, of_sort, ArePlacements}
-use Rattle.dai_model.proofs.Typed.{slice_get-length}
-use Rattle.dai_template.specs.Meeting.{IsBound, AreEnough, HasRoom, AreSpaced, LeavesRoom, IsPartial, IsCompletion, IsBegun}
-use Rattle.dai_template.proofs.MetFrom.{count_inside, cut, cut_at, cut_placed}
+use Rattle.dai_model.specs.Placement.{of_sort, ArePlacements}
+use Rattle.dai_template.specs.Meeting.{IsBound, HasRoom, AreSpaced, LeavesRoom, IsPartial, IsCompletion}
+use Rattle.dai_template.proofs.MetFrom.{count_inside}
 use Rattle.dai_template.proofs.Choices.{IsSearched, sort_at}
-use Rattle.dai_template.proofs.Rooms.{placed_spaced, placed_room, room_found}
+use Rattle.dai_template.proofs.Rooms.{placed_spaced, placed_room}
 
 -- how many places have no element
 abbrev pub open_count : List Bool → ℕ

@@ -2,12 +2,12 @@
 use Rattle.std.proofs.Common.{◌≡◌, ◌<◌, ◌≤◌, ℕ, zero, suc, ◌+◌, ◌*◌, ◌/◌, ◌||◌, ◌&&◌, Bool, true, false, not, List, [], ◌∷◌, length, get_or, set, map, drop, sym, ap, ◌∙◌, refl, subst, arith}
 use Rattle.std.specs.Prelude.{slice_index, nat_eq, if◌then◌else◌}
 use Rattle.std.specs.List.{All, list_any}
-use Rattle.std.proofs.lemmas.List.{get_or-map, length-map, drop_more, drop_all, get_or_default}
+use Rattle.std.proofs.lemmas.List.{get_or-map, length-map, drop_more, drop_all, get_or_default, set-get_or}
 use Rattle.dai_model.specs.Protocol.{Protocol}
 use Rattle.dai_model.specs.Structure as Model
 use Rattle.dai_model.specs.Structure.{is_tuple}
-use Rattle.dai_model.specs.Placement.{of_sort, ArePlacements}
-use Rattle.dai_model.specs.Clause.{Variable, Atom, tuple, is_individual, Literal, atoms_of, literal_among, value_at, atom_value, literal_value, no_atom}
+use Rattle.dai_model.specs.Placement.{of_sort}
+use Rattle.dai_model.specs.Clause.{Variable, Atom, tuple, is_individual, literal_among, value_at, atom_value, literal_value, no_atom}
 use Rattle.dai_model.proofs.Below.{Each, IsVariableOf, IsAtomOf, atoms_inside}
 use Rattle.dai_model.proofs.Typed.{slice_get-length}
 use Rattle.dai_logic.specs.declared.structure.Structure.{Structure}
@@ -194,3 +194,22 @@ read_at xs k i n below same is = is ∙ (get_or_default xs i n 0 (omega (arith, 
 
 pub leaves_as : (a b : Bool) (count size counts sizes sort number e : ℕ) (bound : List Bool) (values : List ℕ) → a ≡ b → count ≡ counts → size ≡ sizes → LeavesRoom a count size sort number e bound values → LeavesRoom b counts sizes sort number e bound values
 leaves_as a b count size counts sizes sort number e bound values p q r h = subst (λ x. LeavesRoom x counts sizes sort number e bound values) p (subst (λ x. LeavesRoom a x sizes sort number e bound values) q (subst (λ x. LeavesRoom a count x sort number e bound values) r h))
+
+-- the same of arrays that are the same
+pub leaves_at : (ordered : Bool) (count size sort number e : ℕ) (bound marks : List Bool) (values elements : List ℕ) → bound ≡ marks → values ≡ elements → LeavesRoom ordered count size sort number e bound values → LeavesRoom ordered count size sort number e marks elements
+leaves_at ordered count size sort number e bound marks values elements p q h = subst (λ b. LeavesRoom ordered count size sort number e b elements) p (subst (LeavesRoom ordered count size sort number e bound) q h)
+
+pub partial_at : (P : Protocol) (sizes counts : List ℕ) (bound marks : List Bool) (values elements : List ℕ) (place other e : ℕ) → bound ≡ marks → values ≡ elements → place ≡ other → IsPartial P sizes counts (set bound place true) (set values place e) → IsPartial P sizes counts (set marks other true) (set elements other e)
+partial_at P sizes counts bound marks values elements place other e p q same h = subst (λ k. IsPartial P sizes counts (set marks k true) (set elements k e)) same (subst (λ b. IsPartial P sizes counts (set b place true) (set elements place e)) p (subst (λ xs. IsPartial P sizes counts (set bound place true) (set xs place e)) q h))
+
+pub met_at : (P : Protocol) (counts : List ℕ) (atoms : List Atom) (literals : List ℕ) (s : Structure) (bound marks : List Bool) (values elements : List ℕ) (place other e : ℕ) → bound ≡ marks → values ≡ elements → place ≡ other → IsMetFrom P counts atoms literals s (set bound place true) (set values place e) → IsMetFrom P counts atoms literals s (set marks other true) (set elements other e)
+met_at P counts atoms literals s bound marks values elements place other e p q same h = subst (λ k. IsMetFrom P counts atoms literals s (set marks k true) (set elements k e)) same (subst (λ b. IsMetFrom P counts atoms literals s (set b place true) (set elements place e)) p (subst (λ xs. IsMetFrom P counts atoms literals s (set bound place true) (set xs place e)) q h))
+
+twice : {X : Type 0} (xs : List X) (p : ℕ) (x y : X) → set (set xs p x) p y ≡ set xs p y
+twice [] p x y = refl
+twice (z ∷ xs) zero x y = refl
+twice (z ∷ xs) (suc p) x y = ap (λ zs. z ∷ zs) (twice xs p x y)
+
+-- what was changed is put back
+pub put_back : {X : Type 0} (xs ys zs : List X) (p : ℕ) (x y d : X) → ys ≡ zs → zs ≡ set xs p x → y ≡ get_or xs p d → set ys p y ≡ xs
+put_back xs ys zs p x y d a b e = ap (λ l. set l p y) (a ∙ b) ∙ (twice xs p x y ∙ (ap (set xs p) e ∙ set-get_or xs p d))

@@ -2,8 +2,8 @@
 use Rattle.std.proofs.Common.{◌≡◌, ◌≢◌, ◌<◌, ◌≤◌, ℕ, zero, suc, ◌+◌, ◌-◌, ◌*◌, Bool, true, false, List, get_or, sym, ap, ◌∙◌, refl, subst, arith, inl, inr, ◌⊎◌}
 use Rattle.std.specs.Prelude.{slice_index}
 use Rattle.std.proofs.lemmas.Bool.{cases_lt}
-use Rattle.dai_model.specs.Placement.{Apart, IsPlacement}
-use Rattle.dai_model.proofs.Counting.{IsHit, left_out}
+use Rattle.dai_model.specs.Placement.{IsPlacement}
+use Rattle.dai_model.proofs.Counting.{left_out}
 use Rattle.dai_template.specs.Meeting.{IsBound, HasRoom, AreSpaced, LeavesRoom}
 
 rising_step : (g : ℕ → ℕ) (i j : ℕ) → i ≤ suc j → g j < g (suc j) → (i ≤ j → g i + j ≤ g j + i) → (i < suc j) ⊎ (suc j ≤ i) → g i + suc j ≤ g (suc j) + i
@@ -56,7 +56,7 @@ record IsLow (count size sort number : ℕ) (bound : List Bool) (values : List �
   pub above : (i : ℕ) → i < k → IsBound bound (record { sort = sort; number = i }) → slice_index values (4 * sort + i) + number ≤ e + i
   pub under : (j : ℕ) → number < j → j < count → IsBound bound (record { sort = sort; number = j }) → e + j ≤ slice_index values (4 * sort + j) + number
 
-true_or_not : (b : Bool) → (b ≡ true) ⊎ (b ≡ true → ⊥)
+pub true_or_not : (b : Bool) → (b ≡ true) ⊎ (b ≡ true → ⊥)
 true_or_not true = inl refl
 true_or_not false = inr (λ e. let k : ⊥ = cc in k)
 

@@ -1,10 +1,9 @@
 -- The value of a literal, and of some literal of a list.
-use Rattle.std.proofs.Common.{◌≡◌, ◌<◌, ◌≤◌, ℕ, ◌+◌, ◌*◌, ◌/◌, ◌%◌, ◌||◌, Bool, true, false, not, List, [], ◌∷◌, length, get_or, map, take, sym, ap, ◌∙◌, refl, subst, arith}
+use Rattle.std.proofs.Common.{◌≡◌, ◌<◌, ℕ, ◌*◌, ◌/◌, ◌%◌, Bool, true, false, not, List, length, get_or, map, sym, ap, ◌∙◌, refl, subst, arith}
 use Rattle.std.specs.Prelude.{nat_eq, if◌then◌else◌}
-use Rattle.std.specs.List.{All, list_any}
+use Rattle.std.specs.List.{All}
 use mathlib.Core.Bool.{beq}
-use Rattle.std.proofs.lemmas.List.{get_or-map, length-map, take_all}
-use Rattle.std.proofs.lemmas.List.Folds.{list_any_at, list_any_more}
+use Rattle.std.proofs.lemmas.List.{get_or-map, length-map}
 use Rattle.dai_model.specs.Structure as Model
 use Rattle.dai_model.specs.Clause.{Atom as ModelAtom}
 use Rattle.dai_model.specs.Clause.{literal_among, no_atom}

@@ -1,16 +1,14 @@
 //! Whether a structure meets a clause.
-ghost use Rattle.std.specs.Prelude.{◌≡◌, ◌<◌, ◌≤◌, ◌+◌, ◌*◌, false, [], length, map, slice_index_or};
-ghost use Rattle.std.specs.Prelude.{ℕ, List, nat_eq, slice_index};
+ghost use Rattle.std.specs.Prelude.{◌≡◌, ◌≢◌, ◌↔◌, ◌<◌, ◌≤◌, ◌+◌, ◌*◌, true, false, [], length, map, drop, slice_index_or};
+ghost use Rattle.std.specs.Prelude.{ℕ, None, IsTrue, IfSome, nat_eq, slice_index};
 ghost use Rattle.std.specs.List.{All, Contains};
 ghost use Rattle.dai_model.specs.Protocol.{Protocol};
-ghost use Rattle.dai_model.specs.Clause.{literal_among};
+ghost use Rattle.dai_model.specs.Clause.{Variable, literal_among};
 ghost use Rattle.dai_logic.specs.Tables.{structure_of, tables_of, tuple_place};
 ghost use Rattle.dai_template.specs.Atoms.{variable_of, atom_of};
 ghost use Rattle.dai_template.specs.Meeting.{element_in, sorts_of, IsReadAt, IsValued, atom_in, literal_in};
-ghost use Rattle.std.specs.Prelude.{true, ◌↔◌, ◌≢◌, IsTrue, IfSome, None, drop, IsSome};
-ghost use Rattle.dai_model.specs.Clause.{Variable};
-ghost use Rattle.dai_template.specs.Meeting.{IsVariableIn, AreAll, IsBound, AreEnough, HasRoom, AreSpaced, IsBeside, LeavesRoom};
-ghost use Rattle.dai_template.specs.Meeting.{IsJudged, IsPartial, IsMetFrom, IsOpen, MayStand};
+ghost use Rattle.dai_template.specs.Meeting.{MayStand, IsVariableIn, AreAll, IsBound, AreEnough, HasRoom, AreSpaced};
+ghost use Rattle.dai_template.specs.Meeting.{IsBeside, LeavesRoom, IsPartial, IsJudged, IsMetFrom, IsOpen};
 
 use crate::clause::{Atom, Clause, Shape};
 use crate::space::Space;
@@ -24,8 +22,9 @@ impl Space {
     ghost use Rattle.dai_template.specs.Spaces.{IsClauseOf, IsAskedOf, clause_of};
 
     /// Whether the structure meets the clause: every way to let the clause's variables stand for elements, those
-    /// of one type for different ones and in order where the type is ordered, makes some literal true. It stops
-    /// at the first way that makes none true, and takes no memory.
+    /// of one type for different ones and in order where the type is ordered, makes some literal true. It goes over
+    /// the variables that the literals name alone, stops at the first way that makes no literal true, and takes no
+    /// memory.
     pub fn meets(&self, s: &Structure, clause: &Clause) -> bool
         requires { IsAskedOf self.now clause.now s.now }
         ensures { (P : Protocol) (B : Bounds) → IsClauseOf P B self.now clause.now → Fits P s.now → (IsTrue result ↔ Meets P (structure_of P s.now) (clause_of self.now clause.now)) }
@@ -34,14 +33,16 @@ impl Space {
         if !are_enough(&shape.counts, &s.sizes) {
             return true;
         }
+        let mut bound = [false; 32];
+        let mut values = [0; 32];
         is_met_from(
             &self.ordered,
             shape,
             clause.lits.as_slice(),
             s,
             0,
-            [false; 32],
-            [0; 32],
+            &mut bound,
+            &mut values,
         )
     }
 }
@@ -200,7 +201,7 @@ fn leaves_room(
     requires long { length values.now ≡ 32 }
     requires known { var.0 < 8 }
     requires few { count ≤ 4 }
-    requires open { IsBound bound.now (variable_of var) → ⊥ }
+    requires fresh { IsBound bound.now (variable_of var) → ⊥ }
     ensures { IsTrue result ↔ LeavesRoom ordered count size var.0 var.1 element bound.now values.now }
 {
     for other in 0..count {
@@ -212,26 +213,30 @@ fn leaves_room(
     has_room(ordered, count, size, var.1, element)
 }
 
-/// Whether each way to let the other variables stand for elements makes some literal from this place on true.
+/// Whether each way to let the other variables stand for elements makes some literal from this place on true. Where
+/// each does, what stands in the arrays is as it was.
+
 fn is_met_from(
     ordered: &[bool],
     shape: &Shape,
     literals: &[u8],
     s: &Structure,
     at: usize,
-    bound: [bool; 32],
-    values: [u16; 32],
+    bound: &mut [bool],
+    values: &mut [u16],
 ) -> bool
-    requires { IsOpen ordered.now shape.now.counts.items (map atom_of shape.now.atoms.items) literals.now s.now at bound values }
-    ensures only { (P : Protocol) → IsJudged P ordered.now shape.now.counts.items (map atom_of shape.now.atoms.items) literals.now s.now → IsPartial P s.now.sizes.items shape.now.counts.items bound values → result ≡ true → IsMetFrom P shape.now.counts.items (map atom_of shape.now.atoms.items) (drop at literals.now) s.now bound values }
-    ensures exact { (P : Protocol) → IsJudged P ordered.now shape.now.counts.items (map atom_of shape.now.atoms.items) literals.now s.now → IsPartial P s.now.sizes.items shape.now.counts.items bound values → IsMetFrom P shape.now.counts.items (map atom_of shape.now.atoms.items) (drop at literals.now) s.now bound values → result ≡ true }
+    requires { IsOpen ordered.now shape.now.counts.items (map atom_of shape.now.atoms.items) literals.now s.now at bound.old values.old }
+    ensures only { (P : Protocol) → IsJudged P ordered.now shape.now.counts.items (map atom_of shape.now.atoms.items) literals.now s.now → IsPartial P s.now.sizes.items shape.now.counts.items bound.old values.old → result ≡ true → IsMetFrom P shape.now.counts.items (map atom_of shape.now.atoms.items) (drop at literals.now) s.now bound.old values.old }
+    ensures exact { (P : Protocol) → IsJudged P ordered.now shape.now.counts.items (map atom_of shape.now.atoms.items) literals.now s.now → IsPartial P s.now.sizes.items shape.now.counts.items bound.old values.old → IsMetFrom P shape.now.counts.items (map atom_of shape.now.atoms.items) (drop at literals.now) s.now bound.old values.old → result ≡ true }
+    ensures bound { result ≡ true → bound.new ≡ bound.old }
+    ensures values { result ≡ true → values.new ≡ values.old }
 {
     if at == literals.len() {
         return false;
     }
     let literal = literals[at];
-    let Some(var) = unbound(&shape.atoms[usize::from(literal / 2)], &bound) else {
-        if is_true(shape, literal, s, &values) {
+    let Some(var) = unbound(&shape.atoms[usize::from(literal / 2)], bound) else {
+        if is_true(shape, literal, s, values) {
             return true;
         }
         return is_met_from(ordered, shape, literals, s, at + 1, bound, values);
@@ -239,15 +244,16 @@ fn is_met_from(
     let sort = usize::from(var.0);
     let (ordered_here, count, size) = (ordered[sort], shape.counts[sort], s.sizes[sort]);
     let place = 4 * sort + usize::from(var.1);
+    let before = values[place];
     for element in 0..size {
-        if leaves_room(ordered_here, count, size, var, element, &bound, &values) {
-            let mut also = bound;
-            let mut more = values;
-            also[place] = true;
-            more[place] = element;
-            if !is_met_from(ordered, shape, literals, s, at, also, more) {
+        if leaves_room(ordered_here, count, size, var, element, bound, values) {
+            bound[place] = true;
+            values[place] = element;
+            if !is_met_from(ordered, shape, literals, s, at, bound, values) {
                 return false;
             }
+            bound[place] = false;
+            values[place] = before;
         }
     }
     true

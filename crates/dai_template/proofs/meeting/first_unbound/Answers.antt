@@ -1,5 +1,5 @@
 use Rattle.std.proofs.Common.{◌≡◌, ◌+◌, ◌*◌, false, get_or, arith, sym, ◌∙◌, ap}
-use Rattle.dai_template.proofs.Unbound.{place_of, one_more, all_seen, this_one}
+use Rattle.dai_template.proofs.Unbound.{place_of, one_more, all_seen}
 use Rattle.dai_template.proofs.meeting.first_unbound.Goals as goal
 
 pub overflow_add-from : goal.overflow_add-from

@@ -1,4 +1,4 @@
-use Rattle.std.proofs.Common.{map, arith}
+use Rattle.std.proofs.Common.{arith}
 use Rattle.std.proofs.lemmas.List.{length-map}
 use Rattle.dai_logic.specs.Tables.{structure_of}
 use Rattle.dai_template.specs.Atoms.{atom_of}

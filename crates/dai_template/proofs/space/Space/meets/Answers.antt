@@ -30,9 +30,9 @@ returns-then-not-are_enough c = λ P B h fits.
     let same = shape_counts c.args.self.now c.args.clause.now shape h.shape c.index-shape.ensures in
     let each : length shape.counts.items ≡ length P.sorts = ap length same ∙ h.template.one_count_each in
     let few : AreEnough shape.counts.items c.args.s.now.sizes.items → ⊥ = λ enough.
-        let k : false ≡ true = sym c.if-not-are_enough.true ∙ c.are_enough.ensures.1 (enough_as _ _ c.deref.result.now c.deref-2.result.now (sym c.deref.ensures.value) (sym c.deref-2.ensures.value) enough) in
-        let no : ⊥ = cc in
-        no in
+    let k : false ≡ true = sym c.if-not-are_enough.true ∙ c.are_enough.ensures.1 (enough_as _ _ c.deref.result.now c.deref-2.result.now (sym c.deref.ensures.value) (sym c.deref-2.ensures.value) enough) in
+    let no : ⊥ = cc in
+    no in
     (λ _. met_by_none P c.args.s.now shape.counts.items (clause_of c.args.self.now c.args.clause.now) each (sym same) few, λ _. refl)
 
 pub returns : goal.returns
