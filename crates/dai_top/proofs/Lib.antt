@@ -4,3 +4,4 @@ pub mod Puts
 pub mod Sorts
 pub mod Faults
 pub mod OneAnswer
+pub mod Outcomes

@@ -4,6 +4,8 @@
 mod answers;
 mod bounds;
 mod console;
+#[cfg(test)]
+mod fault_tests;
 mod limits;
 #[cfg(test)]
 mod logged;
@@ -12,6 +14,8 @@ mod stop;
 #[cfg(test)]
 mod tests;
 mod top;
+#[cfg(test)]
+mod watched;
 
 pub use answers::{Answer, answer_to};
 pub use dai_words::{Command, Settings, WordsError, read_words};

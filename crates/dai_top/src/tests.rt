@@ -8,7 +8,7 @@ use dai_template::Space;
 use std::alloc::Global;
 use std::test::Fail;
 
-const TWO_FLAGS: &str =
+pub const TWO_FLAGS: &str =
     "relation a\nrelation b\nafter init { a := false; b := true }\naction t = { require ~a; a := true; b := false }\nexport t\ninvariant [excl] ~(a & b)\n";
 
 const SWAP: &str =
@@ -173,7 +173,7 @@ const ROWS: [(&str, u8, &str, &str); 29] = [
 ];
 
 /// The words of a line, between spaces.
-fn words_of(alloc: Global, line: &str) -> Result<Vec<String>, Fail> {
+pub fn words_of(alloc: Global, line: &str) -> Result<Vec<String>, Fail> {
     let mut words = Vec::new(alloc);
     for word in line.split(' ') {
         if !word.is_empty() {
