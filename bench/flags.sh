@@ -1,6 +1,7 @@
 #!/usr/bin/env bash
-# How long `infer` takes on a binary counter of ten flags with up to eight literals (52,905 clauses, one round
-# of weakening for each of its 1,024 states), and the ratio to a counter of five flags.
+# How long `infer` takes on a binary counter of ten flags with up to eight literals (52,905 clauses, several rounds
+# of weakening for each of its 1,024 states), and the ratio to a counter of five flags; and how many rounds and questions
+# these are, where the program of `bench_rounds` is built or given as the argument.
 set -eu
 here=$(cd "$(dirname "$0")/.." && pwd)
 work=$(mktemp -d)
@@ -32,11 +33,20 @@ print(f"{best:.3f}")
 PY
 }
 
+rounds=${1:-$here/crates/bench_rounds/out/bench_rounds}
+counts() {
+  if [ -x "$rounds" ]; then
+    echo "  $("$rounds" "$1" 8 | paste -sd ' ' | sed 's/ questions/, questions/')"
+  fi
+}
+
 "$here/distai" infer /dev/null > /dev/null
 counter 5 > "$work/five.ivy"
 counter 10 > "$work/ten.ivy"
 five=$(seconds "$work/five.ivy")
 ten=$(seconds "$work/ten.ivy")
 echo "five flags: $five s"
+counts "$work/five.ivy"
 echo "ten flags: $ten s (goal: at most 2 s)"
+counts "$work/ten.ivy"
 python3 -c "print(f'ratio: {$ten / $five:.0f}')"

@@ -3,9 +3,13 @@
 #![tactic(auto)]
 
 mod judging;
+mod logged;
 mod states;
 mod steps;
 mod table;
+#[cfg(test)]
+mod tests;
 
 pub use judging::Premises;
+pub use logged::Logged;
 pub use table::{MOST_FLAGS, TruthTable};

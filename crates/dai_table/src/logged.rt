@@ -1,7 +1,8 @@
 //! A judge that writes down what it is asked.
+use crate::judging::Premises;
+use crate::table::TruthTable;
 use dai_base::Spent;
 use dai_logic::{Formula, Protocol};
-use dai_table::{Premises, TruthTable};
 use dai_template::{Clause, Space};
 use dai_weaken::{Counterexample, Judge};
 

@@ -7,8 +7,6 @@ mod console;
 #[cfg(test)]
 mod fault_tests;
 mod limits;
-#[cfg(test)]
-mod logged;
 mod report;
 mod stop;
 #[cfg(test)]

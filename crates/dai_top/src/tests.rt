@@ -1,9 +1,8 @@
-use crate::logged::Logged;
 use crate::report::report;
 use crate::top::distai;
 use dai_base::{Files, SureFiles, SureSink};
 use dai_front::read_protocol;
-use dai_table::{MOST_FLAGS, TruthTable};
+use dai_table::{Logged, MOST_FLAGS, TruthTable};
 use dai_template::Space;
 use std::alloc::Global;
 use std::test::Fail;

@@ -6,3 +6,4 @@ pub mod Answering
 pub mod Falling
 pub mod Lacking
 pub mod Bottom
+pub mod Nowhere

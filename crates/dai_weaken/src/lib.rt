@@ -6,6 +6,8 @@ mod descent;
 mod following;
 mod judge;
 mod rounds;
+#[cfg(test)]
+mod tests;
 
 pub use beginning::everything;
 pub use descent::{Weakened, greatest};
