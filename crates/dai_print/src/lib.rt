@@ -7,6 +7,8 @@ mod guards;
 mod joining;
 mod names;
 mod report;
+#[cfg(test)]
+mod tests;
 
 pub use clauses::clause_text;
 pub use counts::{Counts, counts_text};

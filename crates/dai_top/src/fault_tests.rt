@@ -162,23 +162,36 @@ fn watched(alloc: Global, failing: Failing) -> Result<Watched, Fail> {
     Ok(Watched { sink, puts: 0 })
 }
 
+/// The status of a run, and the sinks after it.
+#[derive(Drop)]
+struct Told {
+    status: u8,
+    out: Watched,
+    err: Watched,
+}
+
+/// What the words of the line are answered where these calls fail.
+fn answered(alloc: Global, line: &str, failing: &[Failing; 3]) -> Result<Told, Fail> {
+    let words = words_of(alloc, line)?;
+    let mut files = MemFiles::new(alloc);
+    files.hold("ab.ivy", TWO_FLAGS.as_bytes())?;
+    if let Some((call, _)) = failing[0] {
+        files.fail_at(call)?;
+    }
+    let mut out = watched(alloc, failing[1])?;
+    let mut err = watched(alloc, failing[2])?;
+    let status = distai(alloc, words.as_slice(), &mut files, &mut out, &mut err);
+    Ok(Told { status, out, err })
+}
+
 #[test]
 fn faults_of_the_outside(rt: HostRuntime) -> Result<(), Fail> {
-    let alloc = rt.alloc();
     for (line, failing, status, texts, puts) in ROWS.iter() {
-        let words = words_of(alloc, line)?;
-        let mut files = MemFiles::new(alloc);
-        files.hold("ab.ivy", TWO_FLAGS.as_bytes())?;
-        if let Some((call, _)) = failing[0] {
-            files.fail_at(call)?;
-        }
-        let mut out = watched(alloc, failing[1])?;
-        let mut err = watched(alloc, failing[2])?;
-        let answer = distai(alloc, words.as_slice(), &mut files, &mut out, &mut err);
-        assert_eq!(rt; answer, *status, "{line}");
-        assert_eq!(rt; out.sink.bytes(), texts[0].as_bytes(), "{line}");
-        assert_eq!(rt; err.sink.bytes(), texts[1].as_bytes(), "{line}");
-        assert_eq!(rt; [out.puts, err.puts], *puts, "{line}");
+        let told = answered(rt.alloc(), line, failing)?;
+        assert_eq!(rt; told.status, *status, "{line}");
+        assert_eq!(rt; told.out.sink.bytes(), texts[0].as_bytes(), "{line}");
+        assert_eq!(rt; told.err.sink.bytes(), texts[1].as_bytes(), "{line}");
+        assert_eq!(rt; [told.out.puts, told.err.puts], *puts, "{line}");
     }
     Ok(())
 }
