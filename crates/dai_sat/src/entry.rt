@@ -7,7 +7,7 @@ use crate::desk::Desk;
 use dai_base::Spent;
 use dai_trail::cnf::Cnf;
 use dai_trail::lists::Lists;
-use dai_trail::propagation::{follow, open_literal};
+use dai_trail::propagation::{are_others_false, follow};
 use dai_trail::trail::Trail;
 use dai_trail::watches::Watches;
 use std::alloc::Global;
@@ -61,9 +61,9 @@ fn enter(
     }
     let (first, second) = watched(trail, codes);
     watches.enter_given(codes, first, second)?;
-    let None = open_literal(trail, codes, first, 0) else {
+    if !are_others_false(trail, codes, first) {
         return Ok(false);
-    };
+    }
     Ok(follow(cnf, learned, trail, number, codes, first))
 }
 

@@ -15,13 +15,16 @@ const SCALE: f64 = 1e-100;
 /// By what the step grows with each conflict: 1 / 0.95.
 const GROWTH: f64 = 1.0526315789473684;
 
+/// The place of a variable that isn't in the heap.
+const ABSENT: u32 = u32::MAX;
+
 /// What the order knows of a variable.
 #[derive(Clone, Copy)]
 struct Entry {
     /// How active it is.
     activity: f64,
-    /// Where it was put in the heap, if it is there.
-    place: Option<usize>,
+    /// Where it was put in the heap, or `ABSENT`.
+    place: u32,
     /// The value that it had last.
     phase: bool,
 }
@@ -63,7 +66,7 @@ impl Order {
         let var = self.entries.len();
         self.entries.push(Entry {
             activity: 0.0,
-            place: None,
+            place: ABSENT,
             phase: false,
         })?;
         self.insert(var)
@@ -92,7 +95,7 @@ impl Order {
     {
         self.heap[place] = var;
         let entry = &mut self.entries[var];
-        entry.place = Some(place);
+        entry.place = u32::try_from(place).unwrap_or(ABSENT);
     }
 
     /// Moves the variable at a place up the heap to where it belongs.
@@ -153,7 +156,7 @@ impl Order {
         requires { var < vec_len self.old.entries }
         ensures { vec_len self.new.entries ≡ vec_len self.old.entries }
     {
-        if self.entries[var].place.is_some() {
+        if self.entries[var].place != ABSENT {
             return Ok(());
         }
         let end = self.heap.len();
@@ -187,7 +190,7 @@ impl Order {
         ensures heap { vec_len self.new.heap ≡ vec_len self.old.heap }
     {
         let entry = &mut self.entries[var];
-        entry.place = None;
+        entry.place = ABSENT;
     }
 
     /// The most active free variable, and the value that it had last.
@@ -224,9 +227,8 @@ impl Order {
         if activity > MOST_ACTIVE {
             self.rescale();
         }
-        if let Some(place) = self.entries[var].place
-            && place < self.heap.len()
-        {
+        let place = self.entries[var].place as usize;
+        if place < self.heap.len() {
             self.lift(place);
         }
     }

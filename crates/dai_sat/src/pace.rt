@@ -10,7 +10,7 @@ use dai_trail::trail::{FLIPPED, Trail};
 use std::alloc::Global;
 
 /// The conflicts of the shortest span without a restart.
-const UNIT: u64 = 100;
+const UNIT: u64 = 64;
 
 /// How long the search goes on without a restart. The spans are those of Luby, Sinclair and Zuckerman
 /// (1993), by Knuth's reluctant doubling.
@@ -66,7 +66,7 @@ fn sweep(
     ensures marks { desk.new.marks ≡ desk.old.marks }
 {
     let (uses, since) = desk.uses.take(alloc)?;
-    let pairs = desk.watches.drop_learned(alloc, cnf);
+    let pairs = desk.watches.drop_learned(alloc, cnf)?;
     let mut kept = Lists::new(alloc);
     for number in 0..learned.len() {
         let (Some(entry), Some(pair)) = (uses.get(number), pairs.get(number)) else {

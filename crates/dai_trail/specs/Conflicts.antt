@@ -13,7 +13,7 @@ use Rattle.dai_trail.specs.Marks.{AreMarks}
 abbrev pub RefutesOnConflict : Formula → Trail → Look → Type 0
 RefutesOnConflict formula t (Stays code) = Unit {0}
 RefutesOnConflict formula t Moved = Unit {0}
-RefutesOnConflict formula t Conflict = IsRefuted formula t
+RefutesOnConflict formula t (Conflict name) = IsRefuted formula t
 
 -- what is left of a conflict: nothing is known, or there is no model, or the marks refute the trail
 abbrev pub IsResolution : Formula → Trail → Marks → Resolved → Type 0

@@ -144,9 +144,10 @@ impl Marks {
         if place < trail.root {
             return Ok(());
         }
-        if place >= start && !self.is_marked(var) {
-            self.open = self.open.saturating_add(1);
+        if self.is_marked(var) {
+            return Ok(());
         }
+        self.open = self.open.saturating_add((place >= start) as usize);
         self.mark(trail, code)
     }
 

@@ -1,4 +1,4 @@
-ghost use Rattle.std.specs.Prelude.{◌≡◌, ◌<◌, ◌≤◌, ◌⊎◌, ◌^◌, ℕ, length, IsTrue, IfOk, IfNone, IfSome, IfSome, slice_index};
+ghost use Rattle.std.specs.Prelude.{◌≡◌, ◌<◌, ◌≤◌, ◌⊎◌, ◌^◌, ℕ, length, IsTrue, IfOk, IfNone, IfSome, slice_index};
 ghost use Rattle.dai_trail.specs.Trail.{IsFalseIn, IsSound, KeepsDecisions, IsRefuted, rank_of};
 ghost use Rattle.dai_trail.specs.Marks.{IsImplied};
 ghost use Rattle.dai_trail.specs.Conflicts.{RefutesOnConflict};
@@ -7,8 +7,8 @@ use crate::clauses::clause;
 use crate::cnf::Cnf;
 use crate::codes::negation;
 use crate::lists::Lists;
-use crate::trail::Trail;
-use crate::watches::{Pair, Watch, Watches};
+use crate::trail::{TRUE, Trail};
+use crate::watches::{Turn, Watch, Watches};
 use dai_base::Spent;
 use std::alloc::Global;
 
@@ -18,34 +18,35 @@ enum Look {
     Stays(u32),
     /// It watches another literal now.
     Moved,
-    /// All its literals are false.
-    Conflict,
+    /// All literals of the clause of this name are false.
+    Conflict(usize),
 }
 
-/// The first literal of the list other than `apart` that is not false, with its place.
-fn open_place(trail: &Trail, codes: &[u32], apart: u32) -> Option<(usize, u32)>
-    ensures none { IfNone result ((k : ℕ) → k < length codes.now → (slice_index codes.now k ≡ apart) ⊎ IsFalseIn trail.now (slice_index codes.now k)) }
-    ensures within { IfSome result (λ found. found.0 < length codes.now) }
+/// Whether a literal is `apart` or false. Both are looked at, since which holds can't be foreseen.
+fn is_apart_or_false(trail: &Trail, code: u32, apart: u32) -> bool
+    ensures { IsTrue result → (code ≡ apart) ⊎ IsFalseIn trail.now code }
 {
-    for (place, code) in codes.iter().enumerate() {
-        if *code != apart && !trail.is_false(*code) {
-            return Some((place, *code));
-        }
-    }
-    None
+    let same = code == apart;
+    same | trail.is_false(code)
 }
 
-/// A literal of the clause other than `apart` that is not false, and its place. The search begins at
-/// `start`.
-pub fn open_literal(trail: &Trail, codes: &[u32], apart: u32, start: usize) -> Option<(usize, u32)>
-    ensures none { IfNone result ((k : ℕ) → k < length codes.now → (slice_index codes.now k ≡ apart) ⊎ IsFalseIn trail.now (slice_index codes.now k)) }
-    ensures within { IfSome result (λ found. found.0 < length codes.now) }
+/// Whether both hold.
+fn both(first: bool, second: bool) -> bool
+    ensures first { IsTrue result → IsTrue first }
+    ensures second { IsTrue result → IsTrue second }
 {
-    let (front, back) = codes.split_at(start.min(codes.len()));
-    match open_place(trail, back, apart) {
-        Some((place, code)) => Some((front.len() + place, code)),
-        None => open_place(trail, front, apart),
+    first & second
+}
+
+/// Whether each literal of a clause other than `apart` is false.
+pub fn are_others_false(trail: &Trail, codes: &[u32], apart: u32) -> bool
+    ensures { IsTrue result → (k : ℕ) → k < length codes.now → (slice_index codes.now k ≡ apart) ⊎ IsFalseIn trail.now (slice_index codes.now k) }
+{
+    let mut fine = true;
+    for code in codes {
+        fine = both(fine, is_apart_or_false(trail, *code, apart));
     }
+    fine
 }
 
 /// Makes a literal true that follows from a clause whose other literals are false. The answer is true where
@@ -75,14 +76,50 @@ pub fn follow(
     trail.is_false(code)
 }
 
-/// What a clause watches that leaves a false literal.
-fn moved(other: u32, open: u32, code: u32, place: u32) -> Pair {
-    Pair {
-        first: other,
-        second: open,
-        spare: code,
-        place,
+/// Makes a literal true, where the other literals of the clause of a name are false. The answer is true where
+/// it is false too.
+fn infer(cnf: &Cnf, learned: &Lists<u32>, trail: &mut Trail, name: u32, code: u32) -> bool
+    requires { IsSound cnf.now learned.now trail.old }
+    ensures sound { IsSound cnf.now learned.now trail.new }
+    ensures kept { KeepsDecisions trail.old trail.new }
+    ensures rank { rank_of trail.new ≤ rank_of trail.old }
+    ensures head { trail.new.head ≡ trail.old.head }
+    ensures conflict { IsTrue result → IsRefuted cnf.now trail.new }
+{
+    let Some(codes) = clause(cnf, learned, name as usize) else {
+        return false;
+    };
+    if !are_others_false(trail, codes, code) {
+        return false;
     }
+    follow(cnf, learned, trail, name as usize, codes, code)
+}
+
+/// Looks at each clause of two or three literals that has a literal which became false. The answer is the name
+/// of one that has only false literals.
+fn look_at_shorts(
+    cnf: &Cnf,
+    learned: &Lists<u32>,
+    watches: &Watches,
+    trail: &mut Trail,
+    code: u32,
+) -> Option<usize>
+    requires { IsSound cnf.now learned.now trail.old }
+    ensures sound { IsSound cnf.now learned.now trail.new }
+    ensures kept { KeepsDecisions trail.old trail.new }
+    ensures rank { rank_of trail.new ≤ rank_of trail.old }
+    ensures head { trail.new.head ≡ trail.old.head }
+    ensures conflict { IfSome result (λ _. IsRefuted cnf.now trail.new) }
+{
+    for short in watches.shorts(code) {
+        let Some(unit) = short.unit(trail) else {
+            continue;
+        };
+        if infer(cnf, learned, trail, short.clause, unit) {
+            return Some(short.clause as usize);
+        }
+    }
+    None
 }
 
 /// Looks at a clause one of whose watched literals became false.
@@ -101,47 +138,21 @@ fn look_at(
     ensures head { trail.new.head ≡ trail.old.head }
     ensures conflict { IfOk result (RefutesOnConflict cnf.now trail.new) }
 {
-    let name = watch.clause as usize;
-    let Some(pair) = watches.pair(cnf, name) else {
-        return Ok(Look::Stays(watch.blocker));
-    };
-    let other = if pair.first == code {
-        pair.second
-    } else {
-        pair.first
-    };
-    if trail.is_true(other) {
-        return Ok(Look::Stays(other));
-    }
-    if pair.spare != other && !trail.is_false(pair.spare) {
-        watches.move_to(
-            cnf,
-            watch.clause,
-            moved(other, pair.spare, code, pair.place),
-        )?;
-        return Ok(Look::Moved);
-    }
-    let Some(codes) = clause(cnf, learned, name) else {
-        return Ok(Look::Stays(other));
-    };
-    match open_literal(trail, codes, other, pair.place as usize) {
-        Some((place, open)) => {
-            let place = u32::try_from(place).unwrap_or(0);
-            watches.move_to(cnf, watch.clause, moved(other, open, code, place))?;
-            Ok(Look::Moved)
-        }
-        None => {
-            if follow(cnf, learned, trail, name, codes, other) {
-                return Ok(Look::Conflict);
+    match watches.turn(trail, watch, code)? {
+        Turn::Stays(blocker) => Ok(Look::Stays(blocker)),
+        Turn::Moved => Ok(Look::Moved),
+        Turn::Unit(name, other) => {
+            if infer(cnf, learned, trail, name, other) {
+                return Ok(Look::Conflict(name as usize));
             }
             Ok(Look::Stays(other))
         }
     }
 }
 
-/// Looks at each clause that watches a literal that became false. The answer is the name of one that has
-/// only false literals.
-fn look_at_all(
+/// Looks at each clause of more than three literals that watches a literal which became false. The answer is
+/// the name of one that has only false literals.
+fn look_at_watches(
     alloc: Global,
     cnf: &Cnf,
     learned: &Lists<u32>,
@@ -160,14 +171,14 @@ fn look_at_all(
     let mut at = 0;
     while at < list.len() {
         let watch = list[at];
-        if trail.is_true(watch.blocker) {
+        if trail.glance(watch.blocker) == TRUE {
             at += 1;
             continue;
         }
         match look_at(cnf, learned, watches, trail, watch, code)? {
             Look::Stays(blocker) => {
                 list[at] = Watch {
-                    clause: watch.clause,
+                    place: watch.place,
                     blocker,
                 };
                 at += 1;
@@ -175,14 +186,37 @@ fn look_at_all(
             Look::Moved => {
                 let _ = list.swap_remove(at);
             }
-            Look::Conflict => {
+            Look::Conflict(name) => {
                 watches.put(code, list);
-                return Ok(Some(watch.clause as usize));
+                return Ok(Some(name));
             }
         }
     }
     watches.put(code, list);
     Ok(None)
+}
+
+/// Looks at each clause that may have a single literal left since a literal became false. The answer is the
+/// name of one that has only false literals.
+fn look_at_all(
+    alloc: Global,
+    cnf: &Cnf,
+    learned: &Lists<u32>,
+    watches: &mut Watches,
+    trail: &mut Trail,
+    code: u32,
+) -> Result<Option<usize>, Spent>
+    requires { IsSound cnf.now learned.now trail.old }
+    ensures sound { IsSound cnf.now learned.now trail.new }
+    ensures kept { KeepsDecisions trail.old trail.new }
+    ensures rank { rank_of trail.new ≤ rank_of trail.old }
+    ensures head { trail.new.head ≡ trail.old.head }
+    ensures conflict { IfOk result (λ r. IfSome r (λ _. IsRefuted cnf.now trail.new)) }
+{
+    if let Some(name) = look_at_shorts(cnf, learned, watches, trail, code) {
+        return Ok(Some(name));
+    }
+    look_at_watches(alloc, cnf, learned, watches, trail, code)
 }
 
 /// Makes true what follows from the literals of the trail by single clauses, until there is no more or a

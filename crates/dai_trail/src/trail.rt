@@ -1,6 +1,7 @@
-ghost use Rattle.std.specs.Prelude.{◌≡◌, ◌+◌, ◌-◌, ◌*◌, ◌/◌, ◌%◌, ◌<◌, ◌≤◌, ◌^◌, ◌↔◌, ℕ, length, IsTrue, IfOk, OnOk, MatchOption, slice_index};
+ghost use Rattle.std.specs.Prelude.{◌≡◌, ◌+◌, ◌-◌, ◌*◌, ◌/◌, ◌%◌, ◌<◌, ◌≤◌, ◌^◌, ◌↔◌, ℕ, length, IsTrue, IfOk, OnOk, MatchOption, slice_index, slice_index_or};
 ghost use Rattle.dai_trail.specs.Trail.{value_in, IsDecision, IsTrueIn, IsFalseIn, IsFreeIn, IsOpenIn, IsTrail, Enters, CutsTo, Widens, ForgetsReasons, rank_of};
 
+use crate::codes::negation;
 use dai_base::Spent;
 use std::alloc::Global;
 
@@ -9,6 +10,12 @@ pub const DECISION: usize = usize::MAX;
 
 /// The reason of a literal that follows from no single clause.
 pub const FLIPPED: usize = usize::MAX - 1;
+
+/// The value of a literal that is true.
+pub const TRUE: u8 = 1;
+
+/// The value of a literal that is false.
+pub const FALSE: u8 = 0;
 
 /// The value of a variable that has none.
 pub const FREE: u8 = 2;
@@ -33,6 +40,16 @@ pub struct Trail {
     pub root: usize,
     /// No variable below this one is free.
     pub next: usize,
+    /// By literal: `TRUE`, `FALSE` or `FREE`. It only guides.
+    pub hints: Vec<u8>,
+}
+
+/// Writes down the value of a literal.
+fn hint(hints: &mut Vec<u8>, code: u32, value: u8) {
+    let number = code as usize;
+    if number < hints.len() {
+        hints[number] = value;
+    }
 }
 
 impl Trail {
@@ -51,6 +68,7 @@ impl Trail {
             head: 0,
             root: 0,
             next: 0,
+            hints: Vec::new(alloc),
         }
     }
 
@@ -67,8 +85,20 @@ impl Trail {
             self.places.push(0)?;
             self.codes.push(0)?;
             self.reasons.push(0)?;
+            self.hints.push(FREE)?;
+            self.hints.push(FREE)?;
         }
         Ok(())
+    }
+
+    /// The value that a literal seems to have: `TRUE`, `FALSE` or `FREE`.
+    pub fn glance(&self, code: u32) -> u8
+        ensures { result ≡ slice_index_or self.now.hints.items code TRUE }
+    {
+        match self.hints.get(code as usize) {
+            Some(value) => *value,
+            None => TRUE,
+        }
     }
 
     /// Whether the literal is true.
@@ -126,6 +156,8 @@ impl Trail {
         self.codes[place] = code;
         self.reasons[place] = reason;
         self.len = place + 1;
+        hint(&mut self.hints, code, TRUE);
+        hint(&mut self.hints, negation(code), FALSE);
     }
 
     /// Takes the last literal away.
@@ -138,9 +170,12 @@ impl Trail {
     {
         let place = self.len - 1;
         self.len = place;
-        let var = self.codes[place] as usize / 2;
+        let code = self.codes[place];
+        let var = code as usize / 2;
         self.values[var] = FREE;
         self.next = self.next.min(var);
+        hint(&mut self.hints, code, FREE);
+        hint(&mut self.hints, negation(code), FREE);
     }
 
     /// Takes the literals from a decision on away.

@@ -6,10 +6,10 @@ use dai_base::Spent;
 use std::alloc::Global;
 
 /// How many learned clauses there may be before some are let go for the first time.
-const FIRST_LIMIT: usize = 500;
+const FIRST_LIMIT: usize = 200;
 
 /// By how many more there may be each time.
-const MORE: usize = 100;
+const MORE: usize = 10;
 
 /// The fewest conflicts before idle clauses are watched no more.
 const FIRST_SPAN: u64 = 200;
@@ -17,10 +17,11 @@ const FIRST_SPAN: u64 = 200;
 /// The glue up to which a clause is always kept.
 const LOW_GLUE: u32 = 2;
 
-/// When a learned clause took part in a conflict last, and its glue: at how many levels its literals stood
-/// when it was learned (Audemard and Simon, 2009).
+/// When a learned clause took part in conflicts, and its glue: at how many levels its literals stood when it
+/// was learned (Audemard and Simon, 2009).
 #[derive(Clone, Copy)]
 pub struct Use {
+    /// A mean of the times, where each one counts as much as all before it.
     last: u64,
     glue: u32,
 }
@@ -70,11 +71,11 @@ impl Uses {
             && number < self.uses.len()
         {
             let entry = &mut self.uses[number];
-            entry.last = self.now;
+            entry.last = (entry.last / 2).saturating_add(self.now / 2);
         }
     }
 
-    /// The glue of a clause, from the places of the decisions.
+    /// The glue of a clause, from the places of the decisions, but no more than 1 above `LOW_GLUE`.
     pub fn glue(&mut self, trail: &Trail, levels: &[usize], codes: &[u32]) -> Result<u32, Spent> {
         while self.seen.len() <= levels.len() {
             self.seen.push(0)?;
@@ -92,6 +93,9 @@ impl Uses {
             if level < self.seen.len() && self.seen[level] != stamp {
                 self.seen[level] = stamp;
                 glue = glue.saturating_add(1);
+                if glue > LOW_GLUE {
+                    break;
+                }
             }
         }
         Ok(glue)

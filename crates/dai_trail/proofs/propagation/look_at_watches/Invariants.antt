@@ -1,6 +1,6 @@
 use Rattle.std.proofs.Common.{◌≡◌, ◌≤◌, ◌-◌, vec_len}
 use Rattle.dai_trail.specs.Trail.{IsSound, KeepsDecisions, rank_of}
-use Rattle.dai_trail.proofs.propagation.look_at_all.Given as goal
+use Rattle.dai_trail.proofs.propagation.look_at_watches.Given as goal
 
 abbrev pub invariant-loop-at : goal.invariant-loop-at
 invariant-loop-at l = record {
