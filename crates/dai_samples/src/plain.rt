@@ -64,7 +64,10 @@ fn plain(alloc: Global, sorts: Vec<SortInfo>, relations: Vec<RelInfo>) -> Protoc
 pub fn locks(alloc: Global) -> Result<Protocol, Spent>
     ensures { IfOk result (λ p. protocol_of p ≡ locks_of_the_model) }
 {
-    let sorts = vec![in alloc; sort(alloc, b"client", false)?, sort(alloc, b"server", false)?]?;
+    let sorts = vec![in alloc;
+        sort(alloc, b"client", false)?,
+        sort(alloc, b"server", false)?,
+    ]?;
     let link = relation(alloc, b"link", &[0, 1])?;
     let semaphore = relation(alloc, b"semaphore", &[1])?;
     Ok(plain(alloc, sorts, vec![in alloc; link, semaphore]?))
