@@ -1,5 +1,4 @@
 //! The rounds and the questions of a way down.
-ghost use Rattle.std.specs.Prelude.{◌×◌};
 ghost use Rattle.dai_logic.specs.Protocols.{protocol_of};
 ghost use Rattle.dai_model.specs.Template.{Bounds};
 ghost use Rattle.dai_table.specs.Flags.{IsTableOf};
@@ -21,7 +20,7 @@ pub struct Tally {
 
 /// The tally of the way down from the one clause that is below all others, where clauses have at most so many
 /// literals. `None` where the protocol declares a type or more than ten flags, or a limit of the space is passed.
-pub fn tally(alloc: Global, protocol: &Protocol, literals: u8) -> Result<Option<Tally>, Spent> {
+pub fn tally_of(alloc: Global, protocol: &Protocol, literals: u8) -> Result<Option<Tally>, Spent> {
     if literals > 8 || !protocol.sorts.is_empty() || protocol.relations.len() > MOST_FLAGS {
         return Ok(None);
     }

@@ -6,7 +6,7 @@ ghost use Rattle.std.specs.Prelude.{◌≤◌, length};
 
 mod counting;
 
-use counting::{Tally, tally};
+use counting::{Tally, tally_of};
 use dai_base::Spent;
 use dai_front::{ReadError, read_protocol};
 use std::alloc::Global;
@@ -27,7 +27,7 @@ fn counted(alloc: Global, bytes: &[u8], literals: u8) -> Result<Option<Tally>, S
     requires { length bytes.now ≤ 1048576 }
 {
     match read_protocol(alloc, bytes) {
-        Ok(protocol) => tally(alloc, &protocol, literals),
+        Ok(protocol) => tally_of(alloc, &protocol, literals),
         Err(ReadError::Bad { .. }) => Ok(None),
         Err(ReadError::Spent) => Err(Spent),
     }
