@@ -1,0 +1,256 @@
+ghost use Rattle.std.specs.Prelude.{◌≡◌, ◌+◌, ◌<◌, ◌++◌, ◌∷◌, [], List, Bool, true, false, IfOk, OnOk, OnErr};
+ghost use Rattle.dai_trail.specs.Formula.{IsBelow, AreMetBy, formula_of, value_at};
+ghost use Rattle.dai_circuit.specs.Circuits.{AreBitsBelow, IsBitBelow, IsBitFor, Extends, Defines, Adds, Requires, IsTied, IsOver, bit_value, lit_value, same_value, all_value, any_value, all_true, variable};
+
+use crate::bit::{Bit, opposite};
+use crate::parts::{converse, has_known, literals, negations};
+use dai_base::Spent;
+use dai_trail::codes::MOST_VARS;
+use dai_trail::{Cnf, Lit};
+use std::alloc::Global;
+use std::marker::Model;
+
+/// A formula in conjunctive form that grows by definitions. A contract sees the formula.
+///
+/// Each operation answers `Spent` where memory is wanting, where the formula would have more than 2^31 - 1
+/// variables, and where its clauses together would have 2^32 literals. Definitions that were begun then stay,
+/// which constrain nothing.
+#[derive(Drop)]
+pub struct Circuit {
+    cnf: Cnf,
+    alloc: Global,
+}
+
+impl Model for Circuit {
+    ghost use Rattle.dai_trail.specs.Formula.{Formula};
+    ghost use Rattle.dai_circuit.specs.Circuits.{IsOver};
+
+    ghost Value = { Formula };
+
+    ghost view = { λ c. c.cnf };
+
+    ghost invariant = { λ c. IsOver c.cnf };
+}
+
+impl Circuit {
+    /// The circuit with no variable and no clause. Takes no memory.
+    pub fn new(alloc: Global) -> Circuit
+        ensures { result ≡ formula_of 0 [] }
+    {
+        Circuit {
+            cnf: Cnf::new(alloc, 0),
+            alloc,
+        }
+    }
+
+    /// The formula of the circuit.
+    pub fn formula(&self) -> &Cnf
+        ensures { result.now ≡ self.now }
+    {
+        &self.cnf
+    }
+
+    /// A new variable, which is free.
+    fn fresh(&mut self) -> Result<usize, Spent>
+        ensures ok { IfOk result (λ var. (var ≡ self.old.vars) × (self.new ≡ formula_of (self.old.vars + 1) self.old.clauses)) }
+        ensures err { OnErr result (self.new ≡ self.old) }
+        ensures over { IsOver self.old }
+    {
+        if self.cnf.vars() >= MOST_VARS {
+            return Err(Spent);
+        }
+        Ok(self.cnf.grow())
+    }
+
+    /// Adds a clause.
+    fn add(&mut self, lits: &[Lit]) -> Result<(), Spent>
+        requires { IsBelow self.old.vars lits.now }
+        ensures ok { OnOk result (self.new ≡ formula_of self.old.vars (self.old.clauses ++ lits.now ∷ [])) }
+        ensures err { OnErr result (self.new ≡ self.old) }
+    {
+        self.cnf.add(lits)
+    }
+
+    /// The bit of a new variable, which is free.
+    pub fn input(&mut self) -> Result<Bit, Spent>
+        ensures ok { IfOk result (λ bit. (bit ≡ Bit.Is (variable self.old.vars)) × (self.new ≡ formula_of (self.old.vars + 1) self.old.clauses)) }
+        ensures err { OnErr result (self.new ≡ self.old) }
+        ensures extends { Extends self.old self.new }
+    {
+        let var = self.fresh()?;
+        Ok(Bit::Is(Lit {
+            var,
+            positive: true,
+        }))
+    }
+
+    /// Adds that a variable implies each literal.
+    fn imply_each(&mut self, var: usize, lits: &[Lit]) -> Result<(), Spent>
+        requires var { var < self.old.vars }
+        requires lits { IsBelow self.old.vars lits.now }
+        ensures adds { Adds self.old self.new (λ bits. value_at bits var ≡ all_true lits.now bits) }
+        ensures ok { OnOk result ((bits : List Bool) → AreMetBy self.new bits → value_at bits var ≡ true → all_true lits.now bits ≡ true) }
+    {
+        for lit in lits {
+            self.add(&[
+                Lit {
+                    var,
+                    positive: false,
+                },
+                *lit,
+            ])?;
+        }
+        Ok(())
+    }
+
+    /// Adds that all literals together imply a variable.
+    fn imply_back(&mut self, var: usize, lits: &[Lit]) -> Result<(), Spent>
+        requires var { var < self.old.vars }
+        requires lits { IsBelow self.old.vars lits.now }
+        ensures adds { Adds self.old self.new (λ bits. value_at bits var ≡ all_true lits.now bits) }
+        ensures ok { OnOk result ((bits : List Bool) → AreMetBy self.new bits → all_true lits.now bits ≡ true → value_at bits var ≡ true) }
+    {
+        let clause = converse(self.alloc, var, lits)?;
+        self.add(clause.as_slice())
+    }
+
+    /// Adds that a variable is true exactly where all literals are.
+    fn tie_all(&mut self, var: usize, lits: &[Lit]) -> Result<(), Spent>
+        requires var { var < self.old.vars }
+        requires lits { IsBelow self.old.vars lits.now }
+        ensures adds { Adds self.old self.new (λ bits. value_at bits var ≡ all_true lits.now bits) }
+        ensures ok { OnOk result ((bits : List Bool) → AreMetBy self.new bits → value_at bits var ≡ all_true lits.now bits) }
+    {
+        self.imply_each(var, lits)?;
+        self.imply_back(var, lits)
+    }
+
+    /// A new variable that is true exactly where all literals are.
+    fn define_all(&mut self, lits: &[Lit]) -> Result<Bit, Spent>
+        requires { IsBelow self.old.vars lits.now }
+        ensures { Defines self.old self.new result (all_true lits.now) }
+    {
+        let var = self.fresh()?;
+        self.tie_all(var, lits)?;
+        Ok(Bit::Is(Lit {
+            var,
+            positive: true,
+        }))
+    }
+
+    /// The bit that is true where all literals are.
+    fn all_literals(&mut self, lits: &[Lit]) -> Result<Bit, Spent>
+        requires { IsBelow self.old.vars lits.now }
+        ensures { Defines self.old self.new result (all_true lits.now) }
+    {
+        match lits {
+            [] => Ok(Bit::Known(true)),
+            [lit] => Ok(Bit::Is(*lit)),
+            _ => self.define_all(lits),
+        }
+    }
+
+    /// The bit that is true where all these are; with none it is true.
+    pub fn all(&mut self, parts: &[Bit]) -> Result<Bit, Spent>
+        requires { AreBitsBelow self.old.vars parts.now }
+        ensures { Defines self.old self.new result (all_value parts.now) }
+    {
+        if has_known(parts, false) {
+            return Ok(Bit::Known(false));
+        }
+        let lits = literals(self.alloc, parts)?;
+        self.all_literals(lits.as_slice())
+    }
+
+    /// The bit that is true where some of these is; with none it is false.
+    pub fn any(&mut self, parts: &[Bit]) -> Result<Bit, Spent>
+        requires { AreBitsBelow self.old.vars parts.now }
+        ensures { Defines self.old self.new result (any_value parts.now) }
+    {
+        let negated = negations(self.alloc, parts)?;
+        let none = self.all(negated.as_slice())?;
+        Ok(none.negation())
+    }
+
+    /// Adds that a variable has the value of a literal unless another literal is true.
+    fn tie_unless(&mut self, guard: Lit, var: usize, other: Lit) -> Result<(), Spent>
+        requires guard { guard.var < self.old.vars }
+        requires var { var < self.old.vars }
+        requires other { other.var < self.old.vars }
+        ensures adds { Adds self.old self.new (IsTied guard var other) }
+        ensures ok { OnOk result ((bits : List Bool) → AreMetBy self.new bits → IsTied guard var other bits) }
+    {
+        let yes = Lit {
+            var,
+            positive: true,
+        };
+        self.add(&[guard, opposite(yes), other])?;
+        self.add(&[guard, yes, opposite(other)])
+    }
+
+    /// Adds that a variable is true exactly where two literals have the same value.
+    fn tie_same(&mut self, var: usize, first: Lit, second: Lit) -> Result<(), Spent>
+        requires var { var < self.old.vars }
+        requires first { first.var < self.old.vars }
+        requires second { second.var < self.old.vars }
+        ensures adds { Adds self.old self.new (λ bits. value_at bits var ≡ same_value (lit_value bits first) (lit_value bits second)) }
+        ensures ok { OnOk result ((bits : List Bool) → AreMetBy self.new bits → value_at bits var ≡ same_value (lit_value bits first) (lit_value bits second)) }
+    {
+        self.tie_unless(opposite(first), var, second)?;
+        self.tie_unless(first, var, opposite(second))
+    }
+
+    /// The bit that is true where two literals have the same value.
+    fn same_literals(&mut self, first: Lit, second: Lit) -> Result<Bit, Spent>
+        requires first { first.var < self.old.vars }
+        requires second { second.var < self.old.vars }
+        ensures { Defines self.old self.new result (λ bits. same_value (lit_value bits first) (lit_value bits second)) }
+    {
+        if first.var == second.var {
+            return Ok(Bit::Known(first.positive == second.positive));
+        }
+        let var = self.fresh()?;
+        self.tie_same(var, first, second)?;
+        Ok(Bit::Is(Lit {
+            var,
+            positive: true,
+        }))
+    }
+
+    /// The bit that is true where a literal and a bit have the same value.
+    fn same_as_literal(&mut self, first: Lit, second: Bit) -> Result<Bit, Spent>
+        requires first { first.var < self.old.vars }
+        requires second { IsBitBelow self.old.vars second }
+        ensures { Defines self.old self.new result (λ bits. same_value (lit_value bits first) (bit_value bits second)) }
+    {
+        match second {
+            Bit::Known(value) => Ok(Bit::Is(first).signed(value)),
+            Bit::Is(lit) => self.same_literals(first, lit),
+        }
+    }
+
+    /// The bit that is true where two have the same value.
+    pub fn same(&mut self, first: Bit, second: Bit) -> Result<Bit, Spent>
+        requires first { IsBitBelow self.old.vars first }
+        requires second { IsBitBelow self.old.vars second }
+        ensures { Defines self.old self.new result (λ bits. same_value (bit_value bits first) (bit_value bits second)) }
+    {
+        match first {
+            Bit::Known(value) => Ok(second.signed(value)),
+            Bit::Is(lit) => self.same_as_literal(lit, second),
+        }
+    }
+
+    /// Adds that some of these bits is true; with none the formula has no model any more.
+    pub fn require(&mut self, parts: &[Bit]) -> Result<(), Spent>
+        requires { AreBitsBelow self.old.vars parts.now }
+        ensures ok { OnOk result (Requires self.old self.new parts.now) }
+        ensures err { OnErr result (self.new ≡ self.old) }
+    {
+        if has_known(parts, true) {
+            return Ok(());
+        }
+        let clause = literals(self.alloc, parts)?;
+        self.add(clause.as_slice())
+    }
+}
