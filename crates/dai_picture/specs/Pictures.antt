@@ -2,7 +2,7 @@
 -- many at the front are used; a relation has a bit for each tuple of slots, and what an individual, a parameter or a
 -- choice stands for is a row with a bit for each slot, one of which is true. In each assignment a picture shows a
 -- structure.
-use Rattle.std.specs.Prelude.{◌≡◌, ℕ, ◌<◌, ◌≤◌, Bool, List, [], length, map, Some, slice_get, slice_index, slice_index_or, nat_eq, nat_lt, IsTrue, Vec}
+use Rattle.std.specs.Prelude.{◌≡◌, ℕ, ◌<◌, ◌≤◌, Bool, false, List, [], length, map, Some, slice_get, slice_index, slice_index_or, nat_eq, nat_lt, IsTrue, Vec}
 use Rattle.std.specs.declared.alloc.Global.{Global}
 use Rattle.std.specs.List.{All}
 use Rattle.dai_model.specs.Protocol.{Protocol, Relation, Individual}
@@ -48,8 +48,8 @@ pub record Shows (P : Protocol) (frame : Frame) (picture : Picture) (bits : List
 
 -- and the frame names these arguments and choices
 pub record Names (frame : Frame) (bits : List Bool) (arguments choices : List ℕ) : Type 0 where
-  pub arguments : MarkEach bits (rows_of frame.arguments) arguments
-  pub choices : MarkEach bits (rows_of frame.choices) choices
+  pub named : MarkEach bits (rows_of frame.arguments) arguments
+  pub chosen : MarkEach bits (rows_of frame.choices) choices
 
 -- rows of these lengths, whose bits' variables are below a count
 pub record AreRows (count : ℕ) (lengths : List ℕ) (rows : List (List Bit)) : Type 0 where
@@ -65,8 +65,8 @@ pub record IsFrame (P : Protocol) (parameters choices : List ℕ) (count : ℕ) 
   pub one_each : length frame.slots.items ≡ length P.sorts
   pub inhabited : All (λ n. 0 < n) frame.slots.items
   pub used : AreRows count frame.slots.items (rows_of frame.used)
-  pub arguments : AreRows count (slots_of_each frame.slots.items parameters) (rows_of frame.arguments)
-  pub choices : AreRows count (slots_of_each frame.slots.items choices) (rows_of frame.choices)
+  pub named : AreRows count (slots_of_each frame.slots.items parameters) (rows_of frame.arguments)
+  pub chosen : AreRows count (slots_of_each frame.slots.items choices) (rows_of frame.choices)
 
 -- a picture of the protocol's structures with these slots, over so many variables
 pub record IsPicture (P : Protocol) (slots : List ℕ) (count : ℕ) (picture : Picture) : Type 0 where

@@ -21,8 +21,8 @@ AreSizesWithin false slots sizes = AllZip (λ size most. size ≤ most) sizes sl
 pub record IsWorld (P : Protocol) (parameters choices : List ℕ) (exact : Bool) (slots : List ℕ) (w : World) : Type 0 where
   pub structure : IsStructure P w.structure
   pub sizes : AreSizesWithin exact slots w.structure.sizes
-  pub arguments : IsTrue (is_tuple w.structure.sizes parameters w.arguments)
-  pub choices : IsTrue (is_tuple w.structure.sizes choices w.choices)
+  pub given : IsTrue (is_tuple w.structure.sizes parameters w.arguments)
+  pub chosen : IsTrue (is_tuple w.structure.sizes choices w.choices)
 
 pub record ShowsWorld (P : Protocol) (frame : Frame) (picture : Picture) (bits : List Bool) (w : World) : Type 0 where
   pub structure : Shows P frame picture bits w.structure
