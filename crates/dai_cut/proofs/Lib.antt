@@ -1,0 +1,16 @@
+pub mod Numbering
+pub mod Embedded
+pub mod Ranging
+pub mod Restricted
+pub mod Placed
+pub mod Cutting
+pub mod OneCut
+pub mod Executed
+pub mod Witnesses
+pub mod Cuts
+pub mod Marked
+pub mod SmallModel
+pub mod SmallSteps
+pub mod SmallSets
+pub mod Deciding
+pub mod Use

@@ -1,0 +1,4 @@
+pub mod Embedding
+pub mod Among
+pub mod Cut
+pub mod Small
