@@ -1,0 +1,9 @@
+pub mod Findings
+pub mod Terms
+pub mod Comparisons
+pub mod Lookups
+pub mod Placed
+pub mod AtomBits
+pub mod TupleBits
+pub mod FormulaBits
+pub mod SlotBits

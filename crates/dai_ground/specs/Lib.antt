@@ -1,0 +1,4 @@
+pub mod Findings
+pub mod Grounding
+pub mod Rows
+pub mod Atoms
