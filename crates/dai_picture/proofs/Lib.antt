@@ -1,0 +1,13 @@
+pub mod FreeRows
+pub mod Declared
+pub mod Constraints
+pub mod Read
+pub mod Choices
+pub mod DrawnRows
+pub mod Ruled
+pub mod ReadWorld
+pub mod DrawnWorld
+pub mod Values
+pub mod SameWorld
+pub mod DecodedWorld
+pub mod Sampled
