@@ -50,6 +50,22 @@ impl Circuit {
         &self.cnf
     }
 
+    /// The circuit of a formula, which may grow. Takes no memory.
+    pub fn over(alloc: Global, cnf: Cnf) -> Circuit
+        requires { IsOver cnf }
+        ensures { result ≡ cnf }
+    {
+        Circuit { cnf, alloc }
+    }
+
+    /// The formula, without the circuit.
+    pub fn into_formula(self) -> Cnf
+        ensures same { result ≡ self }
+        ensures over { IsOver result }
+    {
+        self.cnf
+    }
+
     /// A new variable, which is free.
     fn fresh(&mut self) -> Result<usize, Spent>
         ensures ok { IfOk result (λ var. (var ≡ self.old.vars) × (self.new ≡ formula_of (self.old.vars + 1) self.old.clauses)) }
