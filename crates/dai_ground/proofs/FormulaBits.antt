@@ -26,7 +26,7 @@ use Rattle.dai_ground.specs.Grounding.{IsPlaced, IsFormulaIn, AreFormulasIn, IsV
 use Rattle.dai_ground.proofs.Findings.{IsMore, AreTwo, extends_after, all_below_more, has_kept, have_other, have_none, have_more, have_two, finds_all, finds_any, finds_agree, finds_after}
 
 -- rows and places over more variables
-rows_kept : (m n : ℕ) (lengths : List ℕ) (rows : List (List Bit)) → m ≤ n → AreRows m lengths rows → AreRows n lengths rows
+pub rows_kept : (m n : ℕ) (lengths : List ℕ) (rows : List (List Bit)) → m ≤ n → AreRows m lengths rows → AreRows n lengths rows
 rows_kept m n lengths rows le are = record { long = are.long; below = λ k d l. all_below_more m n _ le (are.below k d l) }
 
 pub placed_kept : (P : Protocol) (frame : Frame) (picture : Picture) (m n : ℕ) (binding : List ℕ) (scope : Scope) → m ≤ n → IsPlaced P frame picture m binding scope → IsPlaced P frame picture n binding scope

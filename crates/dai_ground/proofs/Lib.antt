@@ -7,3 +7,13 @@ pub mod AtomBits
 pub mod TupleBits
 pub mod FormulaBits
 pub mod SlotBits
+pub mod Restrictions
+pub mod Askings
+pub mod Leadings
+pub mod Choices
+pub mod PlacedRows
+pub mod Leavings
+pub mod Reaches
+pub mod TableBits
+pub mod Posings
+pub mod Answering

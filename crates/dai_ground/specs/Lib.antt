@@ -2,3 +2,10 @@ pub mod Findings
 pub mod Grounding
 pub mod Rows
 pub mod Atoms
+pub mod Asking
+pub mod Choosing
+pub mod Leaving
+pub mod Updating
+pub mod Questions
+pub mod Answers
+pub mod Turns

@@ -39,7 +39,7 @@ pub(crate) fn compares(
 }
 
 /// The types of the relation's arguments.
-fn sorts_of(protocol: &Protocol, rel: u8) -> &[u8]
+pub(crate) fn sorts_of(protocol: &Protocol, rel: u8) -> &[u8]
     requires { IsSome (slice_get (protocol_of protocol.now).relations rel) }
     ensures { (R : Relation) → slice_get (protocol_of protocol.now).relations rel ≡ Some R → result.now ≡ R.arguments }
 {

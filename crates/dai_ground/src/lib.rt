@@ -2,9 +2,23 @@
 //! elements of each type is an assignment, and each formula has the value of its bit.
 #![tactic(auto)]
 
+pub mod asking;
 mod atoms;
 pub mod binding;
 pub mod candidates;
+pub mod choosing;
+pub mod code;
 pub mod comparing;
+mod finding;
 pub mod formulas;
+pub mod found;
 mod lookup;
+pub mod merging;
+pub mod question;
+mod requirements;
+mod restricting;
+mod solving;
+mod targets;
+mod updates;
+mod values;
+pub mod wide;

@@ -1,0 +1,16 @@
+//! A question over all sizes up to given ones, as clauses.
+ghost use Rattle.dai_circuit.specs.Circuits.{IsOver};
+
+use dai_picture::{Frame, Picture};
+use dai_trail::Cnf;
+
+/// Clauses, with the frame and the picture that say what an assignment shows.
+#[derive(Drop)]
+pub struct Wide {
+    pub cnf: Cnf,
+    /// How many variables at the front decide what is shown.
+    pub bits: usize,
+    pub frame: Frame,
+    pub picture: Picture,
+    pub ghost over: { IsOver cnf },
+}
