@@ -1,0 +1,3 @@
+pub mod Sorted
+pub mod Clauses
+pub mod Bridge
