@@ -14,7 +14,7 @@ use dai_picture::decode::Decoded;
 use std::alloc::Global;
 
 /// The number of a closed formula that is false in the structure; `None` where all are true.
-pub(crate) fn first_unmet(
+pub fn first_unmet(
     alloc: Global,
     protocol: &Protocol,
     formulas: &[Formula],

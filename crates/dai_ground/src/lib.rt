@@ -9,7 +9,7 @@ pub mod candidates;
 pub mod choosing;
 pub mod code;
 pub mod comparing;
-mod finding;
+pub mod finding;
 pub mod formulas;
 pub mod found;
 mod lookup;

@@ -1,11 +1,9 @@
 -- Worlds within the sizes that refute, and transitions of the structures up to the sizes that break a clause.
-use Rattle.std.proofs.Common.{◌≡◌, ◌↔◌, ◌≤◌, ◌<◌, ℕ, length, get_or, Bool, true, false, List, [], ◌∷◌, Option, None, Some, Vec, Global, sym, ap, ◌∙◌, subst, refl, not, arith}
-use Rattle.std.specs.Prelude.{slice_get, IsTrue}
-use Rattle.std.specs.Option.{option_map, is_some}
-use Rattle.std.specs.List.{All, AllZip, cons_option}
-use Rattle.std.proofs.lemmas.List.Elements.{All-cons}
-use Rattle.dai_model.proofs.Typed.{slice_get-length}
-use Rattle.std.proofs.lemmas.Option.{slice_get-get_or, get_or_from_slice_get}
+use Rattle.std.proofs.Common.{◌≡◌, ◌↔◌, ◌≤◌, ◌<◌, ℕ, length, get_or, Bool, true, false, List, [], ◌∷◌, Option, None, Some, sym, ap, ◌∙◌, subst, refl, arith}
+use Rattle.std.specs.Prelude.{slice_get, IsTrue, IsSome}
+use Rattle.std.specs.Option.{option_map}
+use Rattle.std.specs.List.{All, AllZip}
+use Rattle.std.proofs.lemmas.Option.{slice_get-get_or}
 use Rattle.dai_model.specs.Formula.{Formula}
 use Rattle.dai_model.specs.Protocol.{Protocol, Block, Action}
 use Rattle.dai_model.specs.Structure.{Structure, is_tuple}
@@ -26,7 +24,9 @@ use Rattle.dai_ground.specs.Answers.{IsFound, NoneRefutes, IsAnswerTo, picked}
 use Rattle.dai_weaken.specs.declared.judge.Counterexample.{Counterexample}
 use Rattle.dai_weaken.specs.Judging.{HoldsAtFirst, HoldsAfter, Follows, IsTransition, AnswersAtFirst, AnswersAfter}
 use Rattle.dai_judge.specs.Premises.{AreFormulasOf}
-use Rattle.dai_judge.specs.Answers.{IsCounterexample, Answers, is_none_found}
+use Rattle.dai_judge.proofs.Picks.{all_picked}
+use Rattle.dai_judge.specs.Answers.{IsCounterexample, is_none_found}
+use Rattle.dai_judge.specs.Memory.{Keeps, Breaks, Decides}
 
 -- a structure's sizes are at most these
 abbrev Within : List ℕ → List ℕ → Type 0
@@ -60,20 +60,12 @@ same_value x y h = cc
 none_given : {X : Type 0} (Q : X → Type 0) → All Q []
 none_given Q = λ k d below. absurd (omega arith)
 
--- what all have, those at some places have
-all_picked : (Q : Formula → Type 0) (fs : List Formula) (ks : List ℕ) → All Q fs → All Q (picked fs ks)
-all_picked Q fs [] all = none_given Q
-all_picked Q fs (k ∷ ks) all = picked_next (slice_get fs k) refl (all_picked Q fs ks all)
-  where
-    picked_next : (o : Option Formula) → slice_get fs k ≡ o → All Q (picked fs ks) → All Q (cons_option o (picked fs ks))
-    picked_next None is rest = rest
-    picked_next (Some g) is rest = All-cons Q g (picked fs ks) (subst Q (get_or_from_slice_get fs k g g is) (all k g (slice_get-length fs k g is))) rest
-
 module _ (P : Protocol) (sizes : List ℕ) where
   -- no world refutes
-  holds_at_first : (f : Formula) (c : Clause) → IsProtocol P → Says P f c → NoneRefutes P (Some P.init) [] f sizes → HoldsAtFirst (up_to sizes) P c
-  holds_at_first f c protocol says none = λ s belongs initial.
+  holds_at_first : (I : List Clause) (fs : List Formula) (f : Formula) (c : Clause) → IsProtocol P → I ≡ [] → AreFormulasOf P I fs → Says P f c → NoneRefutes P (Some P.init) fs f sizes → HoldsAtFirst (up_to sizes) P c
+  holds_at_first I fs f c protocol alone premises says none = λ s belongs initial.
       let kept = same_sizes P P.init initial.before s [] initial.choices initial.leaves in
+      let met : MeetsEach P initial.before I = subst (MeetsEach P initial.before) (sym alone) (λ d there. absurd (let b = there.1 in omega arith)) in
       (says s).0 (true_unless (value_of s empty_environment f) (λ broken.
       none (record { structure = initial.before; arguments = []; choices = initial.choices })
       (record {
@@ -82,7 +74,7 @@ module _ (P : Protocol) (sizes : List ℕ) where
         given = subst (λ sorts. IsTrue (is_tuple initial.before.sizes sorts [])) (sym protocol.no_arguments) refl;
         chosen = initial.chosen;
       })
-      (none_given (Satisfies initial.before))
+      ((premises.exact initial.before initial.structure).1 met)
       (record { axioms = initial.axioms; after = s; leaves = initial.leaves; is_broken = broken })))
 
   holds_after : (I : List Clause) (fs : List Formula) (f : Formula) (c : Clause) (action : Action) → AreFormulasOf P I fs → Says P f c → NoneRefutes P (Some action.block) fs f sizes → HoldsAfter (up_to sizes) P I action c
@@ -139,26 +131,32 @@ module _ (P : Protocol) (sizes : List ℕ) where
       let broken : value_of s empty_environment f ≡ false = subst (λ t. value_of t empty_environment f ≡ false) same h.is_broken in
       not_both (value_of s empty_environment f) broken (all s h.world.sizes h.world.structure h.refutes.axioms ((premises.exact s h.world.structure).0 h.premises_met))
 
-  -- the answers of the judge
-  pub answers_at_first : (f : Formula) (c : Clause) (answer : Option Counterexample) → IsProtocol P → Says P f c → Answers P Init [] f sizes answer → AnswersAtFirst (up_to sizes) P c answer
-  answers_at_first f c None protocol says h = holds_at_first f c protocol says h
-  answers_at_first f c (Some x) protocol says h = record {
-    init = h.by_the_block;
-    transition = transition Init P.init refl [] f x h protocol;
-    broken = breaks Init P.init refl [] f x h c says;
-  }
+  -- what nothing refutes, is kept; and what was found breaks the goal
+  pub keeps_of : (I : List Clause) (fs : List Formula) (f : Formula) (c : Clause) (block : BlockId) → IsProtocol P → (block ≡ Init → I ≡ []) → AreFormulasOf P I fs → Says P f c → NoneRefutes P (block_named P block) fs f sizes → Keeps (up_to sizes) P block I c
+  keeps_of I fs f c Init protocol alone premises says none = holds_at_first I fs f c protocol (alone refl) premises says none
+  keeps_of I fs f c (Act number) protocol alone premises says none = λ action is.
+      holds_after I fs f c action premises says (subst (λ o. NoneRefutes P o fs f sizes) (ap (option_map (λ (b : Action). b.block)) is) none)
 
-  pub answers_after : (I : List Clause) (fs : List Formula) (f : Formula) (c : Clause) (number : ℕ) (action : Action) (answer : Option Counterexample) → IsProtocol P → slice_get P.actions number ≡ Some action → AreFormulasOf P I fs → Says P f c → Answers P (Act number) fs f sizes answer → AnswersAfter (up_to sizes) P I number c answer
-  answers_after I fs f c number action None protocol there premises says h = λ other is.
-      holds_after I fs f c other premises says (subst (λ o. NoneRefutes P o fs f sizes) (ap (option_map (λ (b : Action). b.block)) is) h)
-  answers_after I fs f c number action (Some x) protocol there premises says h =
-      let is = ap (option_map (λ (b : Action). b.block)) there in
-      record {
-        action = h.by_the_block;
-        transition = transition (Act number) action.block is fs f x h protocol;
-        premises_met = origin (Act number) action.block is fs f x h I premises;
-        broken = breaks (Act number) action.block is fs f x h c says;
+  pub breaks_of : (I : List Clause) (fs : List Formula) (f : Formula) (c : Clause) (block : BlockId) (x : Counterexample) → IsProtocol P → IsSome (block_named P block) → AreFormulasOf P I fs → Says P f c → IsCounterexample P block fs f sizes x → Breaks (up_to sizes) P block I c x
+  breaks_of I fs f c block x protocol known premises says h = by_name (block_named P block) refl known
+    where
+      by_name : (o : Option Block) → block_named P block ≡ o → IsSome o → Breaks (up_to sizes) P block I c x
+      by_name None is some = absurd (let k : ⊥ = cc in k)
+      by_name (Some named) is some = record {
+        by_the_block = h.by_the_block;
+        transition = transition block named is fs f x h protocol;
+        premises_met = origin block named is fs f x h I premises;
+        broken = breaks block named is fs f x h c says;
       }
+
+  -- the answers of the judge
+  pub answers_at_first : (c : Clause) (answer : Option Counterexample) → Decides (up_to sizes) P Init [] c answer → AnswersAtFirst (up_to sizes) P c answer
+  answers_at_first c None h = h
+  answers_at_first c (Some x) h = record { init = h.by_the_block; transition = h.transition; broken = h.broken }
+
+  pub answers_after : (I : List Clause) (c : Clause) (number : ℕ) (answer : Option Counterexample) → Decides (up_to sizes) P (Act number) I c answer → AnswersAfter (up_to sizes) P I number c answer
+  answers_after I c number None h = h
+  answers_after I c number (Some x) h = record { action = h.by_the_block; transition = h.transition; premises_met = h.premises_met; broken = h.broken }
 
   -- what nothing refutes with some of the premises, nothing refutes with all
   pub more_premises : (block : Option Block) (fs : List Formula) (f : Formula) (used : List ℕ) → NoneRefutes P block (picked fs used) f sizes → NoneRefutes P block fs f sizes

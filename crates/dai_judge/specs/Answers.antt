@@ -1,5 +1,5 @@
 -- Answers to questions about blocks, before they are answers about clauses.
-use Rattle.std.specs.Prelude.{◌≡◌, ℕ, Bool, true, false, List, Option, None, Some}
+use Rattle.std.specs.Prelude.{◌≡◌, ℕ, Bool, true, false, List}
 use Rattle.dai_model.specs.Protocol.{Protocol}
 use Rattle.dai_model.specs.Formula.{Formula}
 use Rattle.dai_logic.specs.declared.structure.BlockId.{BlockId}
@@ -7,7 +7,7 @@ use Rattle.dai_logic.specs.Protocols.{block_named}
 use Rattle.dai_ground.specs.declared.found.Found.{Found}
 use Rattle.dai_ground.specs.declared.found.Answer.{Answer}
 use Rattle.dai_ground.specs.declared.found.Answer.TheVariants.{Holds, Broken}
-use Rattle.dai_ground.specs.Answers.{IsFound, NoneRefutes}
+use Rattle.dai_ground.specs.Answers.{IsFound}
 use Rattle.dai_weaken.specs.declared.judge.Counterexample.{Counterexample}
 
 -- the counterexample without its block
@@ -19,10 +19,6 @@ found_in x = record { before = x.before; args = x.args; choices = x.choices; aft
 pub record IsCounterexample (P : Protocol) (block : BlockId) (premises : List Formula) (f : Formula) (sizes : List ℕ) (x : Counterexample) : Type 0 where
   pub by_the_block : x.block ≡ block
   pub found : IsFound P (block_named P block) premises f sizes (found_in x)
-
-abbrev pub Answers : Protocol → BlockId → List Formula → Formula → List ℕ → Option Counterexample → Type 0
-Answers P block premises f sizes None = NoneRefutes P (block_named P block) premises f sizes
-Answers P block premises f sizes (Some x) = IsCounterexample P block premises f sizes x
 
 abbrev pub is_none_found : Answer → Bool
 is_none_found (Holds used) = true

@@ -1,2 +1,4 @@
 pub mod Premises
 pub mod Answers
+pub mod Memory
+pub mod Ready

@@ -3,7 +3,8 @@ ghost use Rattle.std.specs.Prelude.{◌≡◌, map};
 ghost use Rattle.dai_logic.specs.Trees.{formula_of};
 ghost use Rattle.dai_judge.specs.Answers.{is_none_found};
 
-use crate::premises::{Premises, formulas};
+use crate::premises::{Premises, formulas, keys, places};
+use crate::recall::Question;
 use crate::sized::SizedJudge;
 use dai_base::Spent;
 use dai_ground::asking::ask;
@@ -24,15 +25,15 @@ fn holds(answer: &Answer) -> bool
 
 impl Judge for SizedJudge {
     ghost use Rattle.dai_model.specs.Classes.{up_to};
-    ghost use Rattle.dai_judge.specs.Premises.{AreSizesFor, AreFormulasOf};
+    ghost use Rattle.dai_judge.specs.Ready.{IsReady, ArePremisesOf};
 
     type Premises = Premises;
 
     ghost class = { λ judge. up_to judge.sizes.items };
 
-    ghost judges = { λ judge P. AreSizesFor P judge.sizes.items };
+    ghost judges = { λ judge P. IsReady P judge };
 
-    ghost prepared = { λ judge premises P I. AreFormulasOf P I (map formula_of premises.formulas.items) };
+    ghost prepared = { λ judge premises P I. ArePremisesOf P I premises };
 
     fn prepare(
         &mut self,
@@ -40,8 +41,11 @@ impl Judge for SizedJudge {
         space: &Space,
         clauses: &[Clause],
     ) -> Result<Premises, Spent> {
+        let keys = keys(self.alloc, space, clauses)?;
         Ok(Premises {
             formulas: formulas(self.alloc, space, clauses)?,
+            places: places(self.alloc, keys.as_slice())?,
+            keys,
         })
     }
 
@@ -51,8 +55,15 @@ impl Judge for SizedJudge {
         space: &Space,
         goal: &Clause,
     ) -> Result<Option<Counterexample>, Spent> {
-        let formula = space.formula(self.alloc, goal)?;
-        self.refute(protocol, BlockId::Init, &[], &formula)
+        let question = Question {
+            alloc: self.alloc,
+            protocol,
+            space,
+            block: BlockId::Init,
+            premises: &Premises::none(self.alloc),
+            goal,
+        };
+        self.decide(&question)
     }
 
     fn consecution(
@@ -63,8 +74,15 @@ impl Judge for SizedJudge {
         action: u8,
         goal: &Clause,
     ) -> Result<Option<Counterexample>, Spent> {
-        let formula = space.formula(self.alloc, goal)?;
-        self.refute(protocol, BlockId::Act(action), &premises.formulas, &formula)
+        let question = Question {
+            alloc: self.alloc,
+            protocol,
+            space,
+            block: BlockId::Act(action),
+            premises,
+            goal,
+        };
+        self.decide(&question)
     }
 
     fn entailed(

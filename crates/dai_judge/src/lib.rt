@@ -3,7 +3,10 @@
 #![tactic(auto)]
 
 mod judging;
+mod keys;
+mod memory;
 mod premises;
+mod recall;
 mod sized;
 #[cfg(test)]
 mod tests;

@@ -9,6 +9,7 @@ ghost use Rattle.dai_template.specs.Spaces.{IsSpaceOf, IsClauseOf};
 ghost use Rattle.dai_template.specs.declared.space.Space.{Space as SpaceOfClauses};
 ghost use Rattle.dai_weaken.specs.Questions.{ArePremises};
 ghost use Rattle.dai_judge.specs.Premises.{AreSizesFor};
+ghost use Rattle.dai_judge.specs.Ready.{IsReady};
 
 use crate::sized::SizedJudge;
 use dai_base::Spent;
@@ -35,11 +36,11 @@ fn told(
     clause: &Clause,
     formula: &Formula,
 ) -> Result<(bool, bool, bool), Spent>
-    requires judge { AreSizesFor (protocol_of protocol.now) judge.old.sizes.items }
+    requires judge { IsReady (protocol_of protocol.now) judge.old }
     requires clause { (B : Bounds) × IsClauseOf (protocol_of protocol.now) B space.now clause.now }
     requires action { 0 < length (protocol_of protocol.now).actions }
     requires closed { IsWellSorted (protocol_of protocol.now) closed_scope (formula_of formula.now) }
-    ensures { AreSizesFor (protocol_of protocol.now) judge.new.sizes.items }
+    ensures { IsReady (protocol_of protocol.now) judge.new }
 {
     let at_first = judge.initiation(protocol, space, clause)?.is_none();
     let premises = judge.prepare(protocol, space, &alone(alloc, clause)?)?;
@@ -59,7 +60,7 @@ fn each_told(
     clauses: &[Clause],
     formula: &Formula,
 ) -> Result<Vec<(bool, bool, bool)>, Spent>
-    requires judge { AreSizesFor (protocol_of protocol.now) judge.old.sizes.items }
+    requires judge { IsReady (protocol_of protocol.now) judge.old }
     requires clauses { (B : Bounds) × All (IsClauseOf (protocol_of protocol.now) B space.now) clauses.now }
     requires action { 0 < length (protocol_of protocol.now).actions }
     requires closed { IsWellSorted (protocol_of protocol.now) closed_scope (formula_of formula.now) }

@@ -1,0 +1,6 @@
+use Rattle.std.proofs.Common.{◌≡◌, take}
+use Rattle.dai_judge.specs.Memory.{clauses_in, picked_of}
+use Rattle.dai_judge.proofs.sized.picked.Given as goal
+
+abbrev pub invariant-loop-number : goal.invariant-loop-number
+invariant-loop-number l = clauses_in l.picked.items ≡ picked_of (clauses_in l.keys) (take l.number-index l.numbers)
