@@ -1,5 +1,5 @@
 -- The fault of the words and a protocol, part by part.
-use Rattle.std.proofs.Common.{◌≡◌, ◌≤◌, ℕ, zero, suc, Bool, true, false, List, [], ◌∷◌, map, Some, None, Result, Ok, Err, sym, ◌∙◌, ap, subst, arith, if◌then◌else◌}
+use Rattle.std.proofs.Common.{◌≡◌, ◌≤◌, ℕ, zero, suc, Bool, true, false, List, [], ◌∷◌, map, Some, Result, Ok, Err, sym, ◌∙◌, ap, subst, arith, if◌then◌else◌}
 use Rattle.std.specs.Prelude.{find}
 use Rattle.std.specs.Option.{option_map_or}
 use Rattle.std.specs.Result.{IfOk, IfErr, IsErrAnd}
@@ -11,21 +11,16 @@ use Rattle.dai_words.specs.Words.{Choices}
 use Rattle.dai_top.specs.declared.stop.Stop.{Stop}
 use Rattle.dai_top.specs.declared.stop.Stop.TheVariants as Stops
 use Rattle.dai_top.specs.Bounds.{same_name, bound_of, bounds_of, names_unknown}
-use Rattle.dai_top.specs.Limits.{limit_fault, command_fault, or_else, fault_of}
+use Rattle.dai_top.specs.Limits.{limit_fault, fault_of}
 use Rattle.dai_top.specs.Stops.{IsFaultThat}
 
 pub unknown_fault : (c : Choices) (P : Protocol) (f : Fault) → f ≡ Words 3 c.variables_word → names_unknown P c ≡ true → fault_of c P ≡ Some f
 unknown_fault c P f is e =
-    ap (λ b. if b then Some (Words 3 c.variables_word) else or_else (limit_fault P (bounds_of P c) c.size) (command_fault c.command P)) e ∙ ap Some (sym is)
+    ap (λ b. if b then Some (Words 3 c.variables_word) else limit_fault P (bounds_of P c) c.size) e ∙ ap Some (sym is)
 
-known : (c : Choices) (P : Protocol) → names_unknown P c ≡ false → fault_of c P ≡ or_else (limit_fault P (bounds_of P c) c.size) (command_fault c.command P)
-known c P e = ap (λ b. if b then Some (Words 3 c.variables_word) else or_else (limit_fault P (bounds_of P c) c.size) (command_fault c.command P)) e
-
-pub past_fault : (c : Choices) (P : Protocol) (f : Fault) → names_unknown P c ≡ false → limit_fault P (bounds_of P c) c.size ≡ Some f → fault_of c P ≡ Some f
-past_fault c P f e h = known c P e ∙ ap (λ o. or_else o (command_fault c.command P)) h
-
-pub within_fault : (c : Choices) (P : Protocol) → names_unknown P c ≡ false → limit_fault P (bounds_of P c) c.size ≡ None → fault_of c P ≡ command_fault c.command P
-within_fault c P e h = known c P e ∙ ap (λ o. or_else o (command_fault c.command P)) h
+-- where each name is a type, the limits decide
+pub known_fault : (c : Choices) (P : Protocol) → names_unknown P c ≡ false → fault_of c P ≡ limit_fault P (bounds_of P c) c.size
+known_fault c P e = ap (λ b. if b then Some (Words 3 c.variables_word) else limit_fault P (bounds_of P c) c.size) e
 
 pub fault_weaker : (A B : Fault → Type 0) → ((f : Fault) → A f → B f) → (s : Stop) → IsFaultThat A s → IsFaultThat B s
 fault_weaker A B step (Stops.Fault f) h = (step f h.0, h.1)

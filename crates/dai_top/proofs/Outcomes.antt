@@ -1,5 +1,5 @@
 -- What an outcome says, and how one is made.
-use Rattle.std.proofs.Common.{◌≡◌, ◌<◌, ◌≤◌, ℕ, List, length, Option, Some, None, Result, inl, inr, ◌⊎◌, sym, ◌∙◌, ap, subst, refl, arith, Ok, Err}
+use Rattle.std.proofs.Common.{◌≡◌, ◌<◌, ◌≤◌, ℕ, List, length, Option, Some, None, inl, inr, ◌⊎◌, sym, ◌∙◌, ap, subst, refl, arith, Ok, Err}
 use Rattle.std.specs.Prelude.{IsSomeAnd, Vec}
 use Rattle.std.specs.Global.{Global}
 use Rattle.std.specs.Option.{IfSome, IfNone}
@@ -10,7 +10,7 @@ use Rattle.dai_base.specs.declared.files.ReadError.{ReadError}
 use Rattle.dai_base.specs.declared.files.ReadError.TheVariants.{Missing, TooLong, Failed}
 use Rattle.dai_words.specs.Words.{Choices}
 use Rattle.dai_top.specs.Answers.{Answer}
-use Rattle.dai_top.specs.Outcome.{IsTold, IsUnread, faulty, unheld, IsPut, IsOutcome, IsAnswerFrom, answers, is_long, is_unread, IsAllowed, refuses, accepts, TellsUnread, read_line, unreadable}
+use Rattle.dai_top.specs.Outcome.{IsTold, IsUnread, faulty, unheld, IsOutcome, IsAnswerFrom, answers, is_long, is_unread, IsAllowed, refuses, accepts, TellsUnread, read_line}
 use Rattle.dai_top.proofs.OneAnswer.{refused_or_done}
 
 -- a name that is missing, a read that failed, and a file that is too long

@@ -1,16 +1,14 @@
--- What is asked of a protocol with its bounds: each given name is a type, and the counts are within their limits. For
--- a report, until types can be judged, the protocol is one of at most ten flags. The first that fails is told.
-use Rattle.std.specs.Prelude.{ℕ, Bool, ◌&&◌, length, Option, Some, None, nat_eq, nat_lt, nat_le, if◌then◌else◌}
+-- What is asked of a protocol with its bounds: each given name is a type, and the counts are within their limits. The
+-- first that fails is told.
+use Rattle.std.specs.Prelude.{ℕ, Option, Some, None, nat_lt, if◌then◌else◌}
 use Rattle.dai_base.specs.declared.fault.Fault.{Fault}
-use Rattle.dai_base.specs.declared.fault.Fault.TheVariants.{Words, InFile, Limit}
+use Rattle.dai_base.specs.declared.fault.Fault.TheVariants.{Words, Limit}
 use Rattle.dai_base.specs.declared.fault.LimitKind.TheVariants.{Atoms, Templates, Ground, Moves}
 use Rattle.dai_model.specs.Protocol.{Protocol}
 use Rattle.dai_model.specs.Template.{Bounds}
 use Rattle.dai_model.specs.Limits.{atom_count, ground_atoms, move_count}
 use Rattle.dai_model.specs.Shapes.{template_count}
 use Rattle.dai_template.specs.Spaces.{most_atoms, most_templates}
-use Rattle.dai_words.specs.declared.settings.Command.{Command}
-use Rattle.dai_words.specs.declared.settings.Command.TheVariants.{Infer, Space, Sample, Gen}
 use Rattle.dai_words.specs.Words.{Choices}
 use Rattle.dai_top.specs.Bounds.{bounds_of, names_unknown}
 
@@ -28,20 +26,5 @@ limit_fault P B size =
     (if nat_lt most_ground (ground_atoms P B.variables size) then Some (Limit 41 Ground (ground_atoms P B.variables size)) else
     (if nat_lt most_moves (move_count P size) then Some (Limit 43 Moves (move_count P size)) else None)))
 
--- it declares no type and at most ten relations
-abbrev pub is_of_flags : Protocol → Bool
-is_of_flags P = nat_eq (length P.sorts) 0 && nat_le (length P.relations) 10
-
--- at the first byte, where a report is asked of another protocol
-abbrev pub command_fault : Command → Protocol → Option Fault
-command_fault Infer P = if is_of_flags P then None else Some (InFile 20 (record { line = 1; column = 1 }))
-command_fault Space P = None
-command_fault Sample P = None
-command_fault Gen P = None
-
-abbrev pub or_else : Option Fault → Option Fault → Option Fault
-or_else (Some fault) later = Some fault
-or_else None later = later
-
 abbrev pub fault_of : Choices → Protocol → Option Fault
-fault_of c P = if names_unknown P c then Some (Words 3 c.variables_word) else or_else (limit_fault P (bounds_of P c) c.size) (command_fault c.command P)
+fault_of c P = if names_unknown P c then Some (Words 3 c.variables_word) else limit_fault P (bounds_of P c) c.size

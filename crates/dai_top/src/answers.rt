@@ -14,7 +14,7 @@ ghost use Rattle.dai_words.specs.Readings.{choices_of};
 ghost use Rattle.dai_words.specs.Words.{AreWithinRanges};
 ghost use Rattle.dai_table.specs.Flags.{IsTableOf};
 ghost use Rattle.dai_top.specs.Bounds.{bounds_of};
-ghost use Rattle.dai_top.specs.Limits.{fault_of, command_fault};
+ghost use Rattle.dai_top.specs.Limits.{fault_of};
 ghost use Rattle.dai_top.specs.Answers.{IsAnswerTo, IsStatusOf};
 ghost use Rattle.dai_top.specs.Stops.{IsFaultThat, IsStop, answer_of};
 
@@ -22,8 +22,8 @@ use crate::bounds::bounds;
 use crate::limits::within_limits;
 use crate::report::report;
 use crate::stop::{Stop, no_protocol};
-use dai_base::{Fault, Place};
 use dai_front::read_protocol;
+use dai_judge::SizedJudge;
 use dai_logic::Protocol;
 use dai_print::{Counts, counts_text};
 use dai_query::{ground, moves};
@@ -43,9 +43,9 @@ pub struct Answer {
 /// The answer to settings, whose numbers are within their ranges, and the bytes of the file.
 ///
 /// `Fault` comes exactly where the bytes or the settings are refused: by the first fault of the bytes; or else where
-/// `--vars` names no type; or else by the first count above its limit; or else, for a report, where the file isn't
-/// one of at most ten flags. For `infer` the text is the report over structures of all sizes, and the status tells
-/// whether every invariant follows; for `space` the text is that of the counts, with status 0.
+/// `--vars` names no type; or else by the first count above its limit. For `infer` the text is the report over
+/// structures of all sizes, and the status tells whether every invariant follows; for `space` the text is that of the
+/// counts, with status 0.
 pub fn answer_to(alloc: Global, settings: &Settings, bytes: &[u8]) -> Result<Answer, Stop>
     requires short { length bytes.now ≤ 1048576 }
     requires ranges { AreWithinRanges (choices_of settings.now) }
@@ -71,28 +71,47 @@ fn answer_on(alloc: Global, settings: &Settings, protocol: &Protocol) -> Result<
     let vars = bounds(alloc, settings, protocol)?;
     let (space, sizes) = within_limits(alloc, protocol, &vars, settings.lits, settings.size)?;
     match settings.command {
-        Command::Infer => infer(alloc, protocol, &space),
+        Command::Infer => infer(alloc, protocol, &space, &sizes),
         Command::Space => count(alloc, protocol, settings, &vars, &space, &sizes),
         Command::Sample | Command::Gen => unreachable!(),
     }
 }
 
-/// The report, where the protocol is one of at most ten flags.
-fn infer(alloc: Global, protocol: &Protocol, space: &Space) -> Result<Answer, Stop>
-    requires { (B : Bounds) × IsSpaceOf (protocol_of protocol.now) B space.now }
-    ensures refused { IfErr result (IsFaultThat (λ f. command_fault infers (protocol_of protocol.now) ≡ Some f)) }
-    ensures accepted { IfOk result (λ _. command_fault infers (protocol_of protocol.now) ≡ None) }
+/// The report over structures of all sizes. A protocol of few flags is judged by its truth table, which is faster
+/// there, and every other one by the solver.
+fn infer(alloc: Global, protocol: &Protocol, space: &Space, sizes: &[u16]) -> Result<Answer, Stop>
+    requires { (B : Bounds) × IsSpaceOf (protocol_of protocol.now) B space.now × (sizes.now ≡ size_bounds (protocol_of protocol.now) B.variables) }
+    ensures spent { IfErr result (λ e. e ≡ Stop.Spent) }
+    ensures reported { IfOk result (λ a. (B : Bounds) → IsSpaceOf (protocol_of protocol.now) B space.now → sizes.now ≡ size_bounds (protocol_of protocol.now) B.variables → IsReport all_sizes (protocol_of protocol.now) B a.out.items × IsStatusOf all_sizes (protocol_of protocol.now) B a.status) }
+    ensures status { IfOk result (λ a. a.status ≤ 1) }
+{
+    if protocol.sorts.is_empty() && protocol.relations.len() <= MOST_FLAGS {
+        return tabulated(alloc, protocol, space);
+    }
+    solved(alloc, protocol, space, sizes)
+}
+
+/// The report by the truth table.
+fn tabulated(alloc: Global, protocol: &Protocol, space: &Space) -> Result<Answer, Stop>
+    requires table { IsTableOf (protocol_of protocol.now) }
+    requires space { (B : Bounds) × IsSpaceOf (protocol_of protocol.now) B space.now }
+    ensures spent { IfErr result (λ e. e ≡ Stop.Spent) }
     ensures reported { IfOk result (λ a. (B : Bounds) → IsSpaceOf (protocol_of protocol.now) B space.now → IsReport all_sizes (protocol_of protocol.now) B a.out.items × IsStatusOf all_sizes (protocol_of protocol.now) B a.status) }
     ensures status { IfOk result (λ a. a.status ≤ 1) }
 {
-    if !protocol.sorts.is_empty() || protocol.relations.len() > MOST_FLAGS {
-        return Err(Stop::Fault(Fault::InFile {
-            number: 20,
-            at: Place { line: 1, column: 1 },
-        }));
-    }
-    let mut table = TruthTable::new(alloc, protocol)?;
-    Ok(report(alloc, &mut table, protocol, space)?)
+    let mut judge = TruthTable::new(alloc, protocol)?;
+    Ok(report(alloc, &mut judge, protocol, space)?)
+}
+
+/// The report by the solver, from the structures up to the sizes that questions need.
+fn solved(alloc: Global, protocol: &Protocol, space: &Space, sizes: &[u16]) -> Result<Answer, Stop>
+    requires { (B : Bounds) × IsSpaceOf (protocol_of protocol.now) B space.now × (sizes.now ≡ size_bounds (protocol_of protocol.now) B.variables) }
+    ensures spent { IfErr result (λ e. e ≡ Stop.Spent) }
+    ensures reported { IfOk result (λ a. (B : Bounds) → IsSpaceOf (protocol_of protocol.now) B space.now → sizes.now ≡ size_bounds (protocol_of protocol.now) B.variables → IsReport all_sizes (protocol_of protocol.now) B a.out.items × IsStatusOf all_sizes (protocol_of protocol.now) B a.status) }
+    ensures status { IfOk result (λ a. a.status ≤ 1) }
+{
+    let mut judge = SizedJudge::new(alloc, sizes)?;
+    Ok(report(alloc, &mut judge, protocol, space)?)
 }
 
 /// The counts of the space, and of the sizes.

@@ -1,6 +1,6 @@
 use crate::report::report;
 use crate::top::distai;
-use dai_base::{Files, SureFiles, SureSink};
+use dai_base::{SureFiles, SureSink};
 use dai_front::read_protocol;
 use dai_table::{Logged, MOST_FLAGS, TruthTable};
 use dai_template::Space;
@@ -16,8 +16,28 @@ const SWAP: &str =
 const LOCK: &str =
     "#lang ivy1.7\ntype client\ntype server\nrelation link(X:client, Y:server)\nrelation semaphore(X:server)\nafter init {\n  semaphore(W) := true;\n  link(X,Y) := false\n}\naction connect(x:client, y:server) = {\n  require semaphore(y);\n  link(x,y) := true;\n  semaphore(y) := false\n}\naction disconnect(x:client, y:server) = {\n  require link(x,y);\n  link(x,y) := false;\n  semaphore(y) := true\n}\nexport connect\nexport disconnect\ninvariant [safety] link(X,Y) & link(Z,Y) -> X = Z\n";
 
+const FOUR: &str =
+    "type node\nrelation bad\nafter init { bad := false }\naction four(a:node, b:node, c:node, d:node) = {\n  require a ~= b & a ~= c & a ~= d & b ~= c & b ~= d & c ~= d;\n  bad := true\n}\nexport four\ninvariant [safe] ~bad\n";
+
+const DOWN: &str =
+    "ordered type n\nrelation p(X:n)\nafter init { p(X) := false }\nexport action raise(x:n) = {\n  require forall Y. Y < x -> p(Y);\n  p(x) := true\n}\nconjecture [down] X < Y & p(Y) -> p(X)\n";
+
+const MUTEX: &str =
+    "type node\nindividual holder : node\nrelation inside(X:node)\nafter init { inside(X) := false }\naction enter(n:node) = { require n = holder; inside(n) := true }\naction leave(n:node) = { inside(n) := false }\naction pass = {\n  require ~inside(holder);\n  local m:node { holder := m }\n}\nexport enter\nexport leave\nexport pass\ninvariant [mutex] inside(X) & inside(Y) -> X = Y\n";
+
+const ELEVEN: &str =
+    "relation r0\nrelation r1\nrelation r2\nrelation r3\nrelation r4\nrelation r5\nrelation r6\nrelation r7\nrelation r8\nrelation r9\nrelation r10\nafter init { r0 := false; r5 := true; r10 := false }\ninvariant [ends] ~r0 & r5 & ~r10\n";
+
+/// What is told of `lock.ivy`.
+const LOCK_REPORT: &str =
+    "invariant [d1] forall Client1:client, Server1:server. ~link(Client1,Server1) | ~semaphore(Server1)\ninvariant [d2] forall Client1:client, Client2:client, Server1:server. Client1 ~= Client2 -> ~link(Client1,Server1) | ~link(Client2,Server1)\nFOUND\n";
+
+/// What is told of `mutex.ivy`.
+const MUTEX_REPORT: &str =
+    "invariant [d1] forall Node1:node. ~inside(Node1) | Node1 = holder\ninvariant [d2] forall Node1:node, Node2:node. Node1 ~= Node2 -> ~inside(Node1) | ~inside(Node2)\ninvariant [d3] forall Node1:node, Node2:node. Node1 ~= Node2 -> ~inside(Node1) | Node2 ~= holder\ninvariant [d4] forall Node1:node, Node2:node. Node1 ~= Node2 -> Node1 ~= holder | Node2 ~= holder\nFOUND\n";
+
 /// The files that are held.
-const HELD: [(&str, &str); 17] = [
+const HELD: [(&str, &str); 22] = [
     ("ab.ivy", TWO_FLAGS),
     ("swap.ivy", SWAP),
     ("none.ivy", "relation p\naxiom p & ~p\n"),
@@ -32,6 +52,11 @@ const HELD: [(&str, &str); 17] = [
     ("end.ivy", "relation p\naction a = { p :="),
     ("left.ivy", "relation p\naction a = { p := * }"),
     ("lock.ivy", LOCK),
+    ("four.ivy", FOUR),
+    ("one.ivy", "type t\nindividual c : t\naxiom X = c\n"),
+    ("down.ivy", DOWN),
+    ("mutex.ivy", MUTEX),
+    ("eleven.ivy", ELEVEN),
     ("t64.ivy", "type t\nrelation r(X:t, Y:t, Z:t)\n"),
     (
         "t68.ivy",
@@ -44,7 +69,9 @@ const HELD: [(&str, &str); 17] = [
 ];
 
 /// Words, and the status, `out` and `err` that answer them.
-const ROWS: [(&str, u8, &str, &str); 29] = [
+type Row = (&'static str, u8, &'static str, &'static str);
+
+const ROWS: [Row; 29] = [
     (
         "infer ab.ivy --lits 2",
         0,
@@ -56,10 +83,10 @@ const ROWS: [(&str, u8, &str, &str); 29] = [
     ("infer unlabelled.ivy", 1, "NOT FOUND 1\n", ""),
     ("infer labelled.ivy", 1, "NOT FOUND 1000\n", ""),
     (
-        "infer typed.ivy",
-        2,
+        "infer eleven.ivy --lits 1",
+        0,
+        "invariant [d1] ~r0\ninvariant [d2] r5\ninvariant [d3] ~r10\nFOUND\n",
         "",
-        "typed.ivy:1:1: E20 not in the profile\n",
     ),
     (
         "infer twice.ivy",
@@ -171,6 +198,66 @@ const ROWS: [(&str, u8, &str, &str); 29] = [
     ),
 ];
 
+/// Reports of files with types.
+const TYPED: [Row; 10] = [
+    ("infer typed.ivy", 0, "FOUND\n", ""),
+    (
+        "infer lock.ivy --vars client=2,server=1 --lits 2",
+        0,
+        LOCK_REPORT,
+        "",
+    ),
+    (
+        "infer lock.ivy --vars client=1,server=1 --lits 2",
+        1,
+        "NOT FOUND safety\n",
+        "",
+    ),
+    (
+        "infer one.ivy --vars t=2",
+        0,
+        "invariant [d1] forall T1:t. T1 = c\ninvariant [d2] forall T1:t, T2:t. T1 ~= T2 -> false\nFOUND\n",
+        "",
+    ),
+    (
+        "infer down.ivy --vars n=2 --lits 2",
+        0,
+        "invariant [d1] forall N1:n, N2:n. N1 < N2 -> p(N1) | ~p(N2)\nFOUND\n",
+        "",
+    ),
+    (
+        "infer mutex.ivy --vars node=2 --lits 2",
+        0,
+        MUTEX_REPORT,
+        "",
+    ),
+    // The size of a run changes no report.
+    (
+        "infer lock.ivy --vars client=2,server=1 --lits 2 --size 1",
+        0,
+        LOCK_REPORT,
+        "",
+    ),
+    (
+        "infer mutex.ivy --vars node=2 --lits 2 --size 6",
+        0,
+        MUTEX_REPORT,
+        "",
+    ),
+    (
+        "infer four.ivy --vars node=1 --lits 1 --size 3",
+        1,
+        "NOT FOUND safe\n",
+        "",
+    ),
+    (
+        "infer four.ivy --vars node=1 --lits 1 --size 1",
+        1,
+        "NOT FOUND safe\n",
+        "",
+    ),
+];
+
 /// The words of a line, between spaces.
 pub fn words_of(alloc: Global, line: &str) -> Result<Vec<String>, Fail> {
     let mut words = Vec::new(alloc);
@@ -182,22 +269,56 @@ pub fn words_of(alloc: Global, line: &str) -> Result<Vec<String>, Fail> {
     Ok(words)
 }
 
+/// The status of a run, and the outputs after it.
+#[derive(Drop)]
+struct Told {
+    status: u8,
+    out: SureSink,
+    err: SureSink,
+}
+
+/// What the words of the line are answered.
+fn answered(alloc: Global, line: &str) -> Result<Told, Fail> {
+    let words = words_of(alloc, line)?;
+    let mut files = SureFiles::new(alloc);
+    for (name, text) in HELD.iter() {
+        files.hold(name, text.as_bytes())?;
+    }
+    let mut out = SureSink::new(alloc);
+    let mut err = SureSink::new(alloc);
+    let status = distai(alloc, words.as_slice(), &mut files, &mut out, &mut err);
+    Ok(Told { status, out, err })
+}
+
 #[test]
 fn answers_and_refusals(rt: HostRuntime) -> Result<(), Fail> {
-    let alloc = rt.alloc();
-    for (line, status, out_text, err_text) in ROWS.iter() {
-        let words = words_of(alloc, line)?;
-        let mut files = SureFiles::new(alloc);
-        for (name, text) in HELD.iter() {
-            files.hold(name, text.as_bytes()).ok().ok_or("memory")?;
-        }
-        let mut out = SureSink::new(alloc);
-        let mut err = SureSink::new(alloc);
-        let answer = distai(alloc, words.as_slice(), &mut files, &mut out, &mut err);
-        assert_eq!(rt; answer, *status, "{line}");
-        assert_eq!(rt; out.bytes(), out_text.as_bytes(), "{line}");
-        assert_eq!(rt; err.bytes(), err_text.as_bytes(), "{line}");
+    for (line, status, out, err) in ROWS.iter() {
+        let told = answered(rt.alloc(), line)?;
+        assert_eq!(rt; told.status, *status, "{line}");
+        assert_eq!(rt; told.out.bytes(), out.as_bytes(), "{line}");
+        assert_eq!(rt; told.err.bytes(), err.as_bytes(), "{line}");
     }
+    Ok(())
+}
+
+#[test]
+fn reports_over_types(rt: HostRuntime) -> Result<(), Fail> {
+    for (line, status, out, err) in TYPED.iter() {
+        let told = answered(rt.alloc(), line)?;
+        assert_eq!(rt; told.status, *status, "{line}");
+        assert_eq!(rt; told.out.bytes(), out.as_bytes(), "{line}");
+        assert_eq!(rt; told.err.bytes(), err.as_bytes(), "{line}");
+    }
+    Ok(())
+}
+
+/// Two servers add no clause, since servers are independent.
+#[test]
+fn the_lock_by_default(rt: HostRuntime) -> Result<(), Fail> {
+    let told = answered(rt.alloc(), "infer lock.ivy")?;
+    assert_eq!(rt; told.status, 0);
+    assert_eq!(rt; told.out.bytes(), LOCK_REPORT.as_bytes());
+    assert_eq!(rt; told.err.bytes(), b"".as_slice());
     Ok(())
 }
 
