@@ -3,8 +3,8 @@
 
 The file at the limits has 8 types, 64 relations of 5 arguments, 16 individuals, 64 axioms, 64 invariants, formulas
 of 12 variables, 64 actions of 6 parameters and 6 locals, init code of 6 locals, and 16 existential variables in the
-requirements of one action and of init. No fault of a place may be told of it, except `1:1: E20`, which says that the
-file doesn't run yet. Each other file has one more of one thing, and E42 has to stand at its place.
+requirements of one action and of init. No fault of a place may be told of it. Each other file has one more of one
+thing, and E42 has to stand at its place. The program is run as `space`, which refuses the same files as `infer`.
 
     limits.py [--program PATH]
 
@@ -104,10 +104,10 @@ def main():
         for name, text in files():
             at = text.find(HERE)
             path.write_text(text.replace(HERE, ""))
-            done = subprocess.run([program, "infer", path, "--lits", "0"], capture_output=True, text=True)
+            done = subprocess.run([program, "space", path, "--lits", "0"], capture_output=True, text=True)
             if at < 0:
                 told = re.search(r":(\d+):(\d+): E(\d+) ", done.stderr)
-                right = 0 <= done.returncode <= 2 and (told is None or told.groups() == ("1", "1", "20"))
+                right = done.returncode in (0, 2) and told is None
             else:
                 line, column = text.count("\n", 0, at) + 1, at - text.rfind("\n", 0, at)
                 wanted = ("", f"{path}:{line}:{column}: E42 too many\n", 2)

@@ -1,4 +1,4 @@
-"""A lexer and a parser of their own for `second_judge.py`, one method for each part of the grammar."""
+"""A lexer and a parser of their own for `second_judge.py` and `typed_answers.py`, one method for each part of the grammar."""
 
 import collections
 import re
@@ -33,9 +33,9 @@ Relation = collections.namedtuple("Relation", "name binders")
 Individual = collections.namedtuple("Individual", "name sort")
 Axiom = collections.namedtuple("Axiom", "at form")
 Init = collections.namedtuple("Init", "block")
-Action = collections.namedtuple("Action", "name params block")
+Action = collections.namedtuple("Action", "name params block exported")
 Export = collections.namedtuple("Export", "name")
-Invariant = collections.namedtuple("Invariant", "at form")
+Invariant = collections.namedtuple("Invariant", "at form label")
 
 
 def tokens_of(text):
@@ -121,11 +121,12 @@ class Parser:
         if word.kind in ("export", "action"):
             name, params = self.name(), self.bracketed(lambda: self.binder("lower"))
             self.next("=")
-            return Action(name, params, self.block())
+            return Action(name, params, self.block(), word.kind == "export")
+        label = None
         if self.takes("["):
-            self.next("lower", "upper", "digits")
+            label = self.next("lower", "upper", "digits").text
             self.next("]")
-        return (Axiom if word.kind == "axiom" else Invariant)(word.at, self.formula())
+        return Axiom(word.at, self.formula()) if word.kind == "axiom" else Invariant(word.at, self.formula(), label)
 
     def binder(self, *kinds):
         name = self.name(*kinds)
