@@ -12,5 +12,6 @@ pub mod Marked
 pub mod SmallModel
 pub mod SmallSteps
 pub mod SmallSets
+pub mod SmallFormulas
 pub mod Deciding
 pub mod Use

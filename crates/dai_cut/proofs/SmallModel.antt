@@ -17,7 +17,7 @@ use Rattle.dai_model.proofs.Folds.{numbers_below-length}
 use Rattle.dai_model.proofs.Below.{numbers_below-at}
 use Rattle.dai_cut.specs.Embedding.{is_image}
 use Rattle.dai_cut.specs.Among.{value_among, within, witnessed}
-use Rattle.dai_cut.specs.Cut.{numbering, Element, count_in}
+use Rattle.dai_cut.specs.Cut.{numbering, IsCut, Element, count_in, HoldsEach}
 use Rattle.dai_cut.specs.Small.{Follows, AreEnough, bound_counts}
 use Rattle.dai_cut.proofs.Embedded.{Stand, Named}
 use Rattle.dai_cut.proofs.Ranging.{Grows, negated_in_profile, value_grows}
@@ -159,37 +159,64 @@ by_refutation true h = refl
 by_refutation false h = absurd (h refl)
 
 -- what a cut keeps of a false universal formula
-refuted_below : (P : Protocol) (s : Structure) (f : Formula) (found : Found (λ c. value_among s (witnessed c) false empty_environment f ≡ false) (witnesses false f)) (made : SmallCut P s found.marks) → IsStructure P s → IsWellSorted P closed_scope f → is_universal true f ≡ true → value_of made.small empty_environment f ≡ true → ⊥
-refuted_below P s f found made st w force h =
-    let maps = numbering s made.chosen in
-    let image = is_image made.small maps in
-    let among = found.enough made.chosen made.holds in
-    let own = restricted P closed_scope made.small s maps false empty_environment empty_environment f (stand P s made.chosen made.small made.is_cut) (closed_named made.small maps) w in
-    let grows : Grows false (value_among s (witnessed made.chosen) false empty_environment f) (value_among s (within image) false empty_environment f) =
-    value_grows s (witnessed made.chosen) (within image) false empty_environment f
-    (record { wider = λ sort e below k. image_is_chosen P s made.chosen made.small st made.is_cut sort e below ∙ k; narrower = λ sort e below k. refl })
+refuted_below : (P : Protocol) (s : Structure) (f : Formula) (found : Found (λ c. value_among s (witnessed c) false empty_environment f ≡ false) (witnesses false f)) (chosen : ℕ → ℕ → Bool) (small : Structure) → IsStructure P s → IsCut P s chosen small → HoldsEach chosen found.marks → IsWellSorted P closed_scope f → is_universal true f ≡ true → value_of small empty_environment f ≡ true → ⊥
+refuted_below P s f found chosen small st is holds w force h =
+    let maps = numbering s chosen in
+    let image = is_image small maps in
+    let among = found.enough chosen holds in
+    let own = restricted P closed_scope small s maps false empty_environment empty_environment f (stand P s chosen small is) (closed_named small maps) w in
+    let grows : Grows false (value_among s (witnessed chosen) false empty_environment f) (value_among s (within image) false empty_environment f) =
+    value_grows s (witnessed chosen) (within image) false empty_environment f
+    (record { wider = λ sort e below k. image_is_chosen P s chosen small st is sort e below ∙ k; narrower = λ sort e below k. refl })
     (negated_in_profile false f force) in
     let up = grows (sym own ∙ h) in
     let n : ⊥ = cc in n
+
+-- elements, at most so many of each type, that refute the goal in every cut that holds them
+pub record Refuted (P : Protocol) (t : Structure) (Goal : Structure → Type 0) (counts : List ℕ) : Type 0 where
+  pub marks : List Element
+  pub few : (sort : ℕ) → sort < length P.sorts → count_in sort marks ≤ slice_index counts sort
+  pub refutes : (chosen : ℕ → ℕ → Bool) (small : Structure) → IsCut P t chosen small → HoldsEach chosen marks → Goal small → ⊥
+
+pub formula_refuted : (P : Protocol) (s : Structure) (f : Formula) → IsStructure P s → IsWellSorted P closed_scope f → is_universal true f ≡ true → value_of s empty_environment f ≡ false → Refuted P s (λ u. Satisfies u f) (bound_counts P f)
+formula_refuted P s f st w force h =
+    let found = find s false empty_environment f (negated_in_profile false f force) h in
+    record {
+      marks = found.marks;
+      few = λ sort below.
+          let a = found.few sort in
+          let b = witnesses_bound sort false f in
+          let c = number_map (λ t. count_of t (bound_sorts f)) (length P.sorts) sort below in
+          omega (arith, a, b, c);
+      refutes = λ chosen small is holds met. refuted_below P s f found chosen small st is holds w force met;
+    }
+
+-- what holds in a structure holds in each that is embedded in it
+abbrev pub GoesDown : Protocol → (Structure → Type 0) → Type 0
+GoesDown P Premise = (small large : Structure) (maps : ℕ → ℕ → ℕ) → Stand P small large maps → Premise large → Premise small
+
+-- a universal formula under a premise that goes down
+pub implied_small : (P : Protocol) (Premise : Structure → Type 0) (f : Formula) (sizes : List ℕ) → IsAccepted P → GoesDown P Premise → IsWellSorted P closed_scope f → is_universal true f ≡ true → AreEnough P (needed_for_implied P (bound_counts P f)) sizes
+    → ((s : Structure) → Belongs (up_to sizes) s → IsStructure P s → SatisfiesAxioms P s → Premise s → Satisfies s f)
+    → (s : Structure) → IsStructure P s → SatisfiesAxioms P s → Premise s → Satisfies s f
+implied_small P Premise f sizes p down w force enough small s st axioms met =
+    by_refutation (value_of s empty_environment f) (λ h.
+    let refuted = formula_refuted P s f st w force h in
+    let made = small_cut P s refuted.marks p.sorted st in
+    let stands = stand P s made.chosen made.small made.is_cut in
+    let maps = numbering s made.chosen in
+    let belongs = small_belongs P s refuted.marks (needed_for_implied P (bound_counts P f)) sizes made enough (λ sort below. let a = refuted.few sort below in omega (arith, a)) in
+    refuted.refutes made.chosen made.small made.is_cut made.holds
+    (small made.small belongs made.is_cut.structure (axioms_restricted P made.small s maps p stands axioms) (down made.small s maps stands met)))
 
 -- premises that are clauses of some kind
 pub follows_small : (P : Protocol) (Premise : Clause → Type 0) (f : Formula) (sizes : List ℕ) → IsAccepted P → ((c : Clause) → Premise c → (B : Bounds) × IsTemplate P B c) → IsWellSorted P closed_scope f → is_universal true f ≡ true → AreEnough P (needed_for_implied P (bound_counts P f)) sizes
     → ((s : Structure) → Belongs (up_to sizes) s → IsStructure P s → SatisfiesAxioms P s → ((c : Clause) → Premise c → Meets P s c) → Satisfies s f)
     → (s : Structure) → IsStructure P s → SatisfiesAxioms P s → ((c : Clause) → Premise c → Meets P s c) → Satisfies s f
 follows_small P Premise f sizes p templates w force enough small s st axioms meets =
-    by_refutation (value_of s empty_environment f) (λ h.
-    let found = find s false empty_environment f (negated_in_profile false f force) h in
-    let made = small_cut P s found.marks p.sorted st in
-    let stands = stand P s made.chosen made.small made.is_cut in
-    let maps = numbering s made.chosen in
-    let belongs = small_belongs P s found.marks (needed_for_implied P (bound_counts P f)) sizes made enough (λ sort below.
-    let a = found.few sort in
-    let b = witnesses_bound sort false f in
-    let c = number_map (λ t. count_of t (bound_sorts f)) (length P.sorts) sort below in
-    omega (arith, a, b, c)) in
-    refuted_below P s f found made st w force
-    (small made.small belongs made.is_cut.structure (axioms_restricted P made.small s maps p stands axioms)
-    (λ c k. let t = templates c k in meets_restricted P t.0 made.small s maps c stands t.1 (meets c k))))
+    implied_small P (λ u. (c : Clause) → Premise c → Meets P u c) f sizes p
+    (λ own large maps stands met c k. let t = templates c k in meets_restricted P t.0 own large maps c stands t.1 (met c k))
+    w force enough small s st axioms meets
 
 pub follows : (P : Protocol) (B : Bounds) (premises : List Clause) (f : Formula) (sizes : List ℕ) → IsAccepted P → ((c : Clause) → Contains premises c → IsTemplate P B c) → IsWellSorted P closed_scope f → is_universal true f ≡ true → AreEnough P (needed_for_implied P (bound_counts P f)) sizes → Follows (up_to sizes) P premises f → Follows all_sizes P premises f
 follows P B premises f sizes p templates w force enough small =

@@ -4,11 +4,12 @@ use Rattle.std.proofs.Common.{◌≡◌, ◌↔◌, ◌<◌, ◌≤◌, get_or, 
 use Rattle.std.specs.Prelude.{slice_get, max}
 use Rattle.std.specs.List.{AllZip, Contains}
 use Rattle.std.proofs.lemmas.List.Elements.{All-contains}
-use Rattle.dai_model.specs.Protocol.{Protocol, Action, Invariant}
-use Rattle.dai_model.specs.Structure.{Structure, is_tuple}
-use Rattle.dai_model.specs.Value.{environment_of}
+use Rattle.dai_model.specs.Protocol.{Protocol, Block, Action, Invariant}
+use Rattle.dai_model.specs.Structure.{Structure, IsStructure, is_tuple}
+use Rattle.dai_model.specs.Value.{environment_of, SatisfiesAxioms}
 use Rattle.dai_model.specs.Execution.{executes}
-use Rattle.dai_model.specs.WellSorted.{closed_scope, IsWellSorted, IsWellSortedBlock}
+use Rattle.dai_model.specs.Reachable.{IsInitial, IsStepOf}
+use Rattle.dai_model.specs.WellSorted.{closed_scope, IsProtocol, IsWellSorted, IsWellSortedBlock}
 use Rattle.dai_model.specs.Profile.{IsAccepted, IsBlockInProfile, IsUniversalSentence}
 use Rattle.dai_model.specs.Clause.{Clause}
 use Rattle.dai_model.specs.Template.{Bounds, IsTemplate}
@@ -32,19 +33,28 @@ no_arguments sizes (sort ∷ sorts) es e h = absurd (let k : ⊥ = cc in k)
 class_kept : (sizes : List ℕ) (s t : Structure) → t.sizes ≡ s.sizes → Belongs (up_to sizes) s → Belongs (up_to sizes) t
 class_kept sizes s t e h = subst (λ own. AllZip (λ size most. size ≤ most) own sizes) (sym e) h
 
+-- a step by init leads to an initial state, and each is led to by one
+pub left_by_init : (P : Protocol) (s t : Structure) → IsProtocol P → IsStructure P s → SatisfiesAxioms P s → IsStepOf P P.init s t → IsInitial P t
+left_by_init P s t p st axioms step =
+    let none = no_arguments s.sizes P.init.parameters step.arguments p.no_arguments step.given in
+    let leaves : executes P P.init s [] step.choices ≡ Some t = subst (λ es. executes P P.init s es step.choices ≡ Some t) none step.leaves in
+    record { before = s; choices = step.choices; structure = st; axioms = axioms; chosen = step.chosen; leaves = leaves }
+
+pub step_by_init : (P : Protocol) (t : Structure) (init : IsInitial P t) → IsProtocol P → IsStepOf P P.init init.before t
+step_by_init P t init p = record { arguments = []; choices = init.choices; given = rw p.no_arguments refl; chosen = init.chosen; leaves = init.leaves }
+
+pub still_small : (P : Protocol) (block : Block) (sizes : List ℕ) (s t : Structure) → IsStepOf P block s t → Belongs (up_to sizes) s → Belongs (up_to sizes) t
+still_small P block sizes s t step inside = class_kept sizes s t (statements_frame P (environment_of step.arguments step.choices) block.code s t step.leaves).sizes inside
+
 pub begins : (P : Protocol) (B : Bounds) (goal : Clause) (sizes : List ℕ) → IsAccepted P → IsTemplate P B goal → AreEnough P (needed_for_block P P.init goal.counts) sizes → HoldsAtFirst (up_to sizes) P goal → HoldsAtFirst all_sizes P goal
 begins P B goal sizes p template enough small =
     λ s _ init.
     leads P B P.init [] goal sizes p p.sorted.init p.profile.init
     (λ c k. absurd (let l = k.1 in omega arith)) template enough
-    (λ u t inside st axioms meets step.
-    let none = no_arguments u.sizes P.init.parameters step.arguments p.sorted.no_arguments step.given in
-    let leaves : executes P P.init u [] step.choices ≡ Some t = subst (λ es. executes P P.init u es step.choices ≡ Some t) none step.leaves in
-    let same = (statements_frame P (environment_of step.arguments step.choices) P.init.code u t step.leaves).sizes in
-    small t (class_kept sizes u t same inside) (record { before = u; choices = step.choices; structure = st; axioms = axioms; chosen = step.chosen; leaves = leaves }))
+    (λ u t inside st axioms meets step. small t (still_small P P.init sizes u t step inside) (left_by_init P u t p.sorted st axioms step))
     init.before s tt init.structure init.axioms
     (λ c k. absurd (let l = k.1 in omega arith))
-    (record { arguments = []; choices = init.choices; given = rw p.sorted.no_arguments refl; chosen = init.chosen; leaves = init.leaves })
+    (step_by_init P s init p.sorted)
 
 -- the greatest of the counts
 counted_in : {X : Type 0} (count : X → ℕ) (xs : List X) (k : ℕ) (x : X) → slice_get xs k ≡ Some x → count x ≤ greatest (map count xs)

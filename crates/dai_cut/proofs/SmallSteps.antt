@@ -1,19 +1,20 @@
 -- The small-model law for steps: a step that leads to a structure which does not meet a clause has one in a cut.
 use Rattle.std.proofs.Common.{◌≡◌, ◌<◌, ◌≤◌, ◌+◌, get_or, length, ℕ, zero, suc, Bool, true, false, cond, List, [], ◌∷◌, ◌++◌, sym, subst, refl, arith, inl, inr, ◌⊎◌}
-use Rattle.std.specs.Prelude.{nat_eq, max}
+use Rattle.std.specs.Prelude.{nat_eq, max, slice_index}
 use Rattle.std.specs.List.{Contains}
 use Rattle.std.proofs.lemmas.Bool.Decides.{nat_tests}
 use Rattle.std.proofs.lemmas.Bool.{cases_lt}
 use Rattle.dai_model.specs.Protocol.{Protocol, Block}
-use Rattle.dai_model.specs.Value.{environment_of}
+use Rattle.dai_model.specs.Structure.{Structure, IsStructure}
+use Rattle.dai_model.specs.Value.{environment_of, SatisfiesAxioms}
 use Rattle.dai_model.specs.Reachable.{IsStepOf}
 use Rattle.dai_model.specs.WellSorted.{IsWellSortedBlock}
 use Rattle.dai_model.specs.Profile.{IsAccepted, IsBlockInProfile, witnesses_in, requirements_in}
 use Rattle.dai_model.specs.Placement.{of_sort, ArePlacements}
-use Rattle.dai_model.specs.Clause.{Clause, clause_value}
+use Rattle.dai_model.specs.Clause.{Clause, clause_value, Meets, MeetsEach}
 use Rattle.dai_model.specs.Template.{Bounds, IsTemplate}
 use Rattle.dai_model.specs.Sizes.{count_of, individual_count, needed_for_block}
-use Rattle.dai_model.specs.Classes.{all_sizes, up_to}
+use Rattle.dai_model.specs.Classes.{all_sizes, up_to, Belongs}
 use Rattle.dai_model.proofs.Typed.{executes_structure}
 use Rattle.dai_model.proofs.Below.{slice_get-some}
 use Rattle.dai_cut.specs.Embedding.{images, image_of_placement}
@@ -23,7 +24,7 @@ use Rattle.dai_cut.proofs.Placed.{meets_restricted, variable_below}
 use Rattle.dai_cut.proofs.Cuts.{stand, places_inside, block_left, numbered_placements, cut_value}
 use Rattle.dai_cut.proofs.Witnesses.{count_of-cons, count_in-append, count_in-cons, count_in-none, holds_left, holds_right, find_code}
 use Rattle.dai_cut.proofs.Marked.{small_cut}
-use Rattle.dai_cut.proofs.SmallModel.{small_belongs, axioms_restricted, by_refutation}
+use Rattle.dai_cut.proofs.SmallModel.{small_belongs, axioms_restricted, by_refutation, Refuted, GoesDown}
 
 -- the elements of a tuple
 abbrev tuple_marks : List ℕ → List ℕ → List Element
@@ -136,44 +137,36 @@ variables_chosen P chosen counts sizes elements long p h =
     placed_chosen chosen elements (length P.sorts) v.sort v.number h here (omega (arith, count, inside))
 
 -- the parts of a question
-abbrev step_marks : Protocol → Block → List ℕ → List ℕ → List Element → List (List ℕ) → List Element
-step_marks P block arguments choices witnesses elements = tuple_marks block.parameters arguments ++ (tuple_marks block.choices choices ++ (witnesses ++ placement_marks elements (length P.sorts)))
+abbrev step_marks : Protocol → Block → List ℕ → List ℕ → List Element → List Element → List Element
+step_marks P block arguments choices witnesses broken = tuple_marks block.parameters arguments ++ (tuple_marks block.choices choices ++ (witnesses ++ broken))
 
-count_step_marks : (P : Protocol) (block : Block) (arguments choices : List ℕ) (witnesses : List Element) (elements : List (List ℕ)) (counts sizes : List ℕ) (sort : ℕ) → ArePlacements P counts sizes elements → sort < length P.sorts → count_in sort witnesses ≤ count_of sort (witnesses_in (requirements_in block.code)) → max (individual_count P sort + count_in sort (step_marks P block arguments choices witnesses elements)) 1 ≤ needed_for_block P block counts sort
-count_step_marks P block arguments choices witnesses elements counts sizes sort p below few =
-    let placed = placement_marks elements (length P.sorts) in
+count_step_marks : (P : Protocol) (block : Block) (arguments choices : List ℕ) (witnesses broken : List Element) (counts : List ℕ) (sort : ℕ) → count_in sort witnesses ≤ count_of sort (witnesses_in (requirements_in block.code)) → count_in sort broken ≤ slice_index counts sort → max (individual_count P sort + count_in sort (step_marks P block arguments choices witnesses broken)) 1 ≤ needed_for_block P block counts sort
+count_step_marks P block arguments choices witnesses broken counts sort few fewer =
     let a = count_tuple block.parameters arguments sort in
     let b = count_tuple block.choices choices sort in
-    let c = (count_placed elements (length P.sorts) sort).few in
-    let found = slice_get-some P.sorts sort below in
-    let d = (p.each sort found.0 found.1).one_each in
-    let e = count_in-append sort (tuple_marks block.parameters arguments) (tuple_marks block.choices choices ++ (witnesses ++ placed)) in
-    let f = count_in-append sort (tuple_marks block.choices choices) (witnesses ++ placed) in
-    let g = count_in-append sort witnesses placed in
-    omega (arith, a, b, c, d, e, f, g, few)
+    let e = count_in-append sort (tuple_marks block.parameters arguments) (tuple_marks block.choices choices ++ (witnesses ++ broken)) in
+    let f = count_in-append sort (tuple_marks block.choices choices) (witnesses ++ broken) in
+    let g = count_in-append sort witnesses broken in
+    omega (arith, a, b, e, f, g, few, fewer)
 
-contradiction : (a b : Bool) → a ≡ b → a ≡ true → b ≡ false → ⊥
-contradiction a b same h k = let n : ⊥ = cc in n
-
-pub leads : (P : Protocol) (B : Bounds) (block : Block) (premises : List Clause) (goal : Clause) (sizes : List ℕ) → IsAccepted P → IsWellSortedBlock P block → IsBlockInProfile block → ((c : Clause) → Contains premises c → IsTemplate P B c) → IsTemplate P B goal → AreEnough P (needed_for_block P block goal.counts) sizes → HoldsAfter (up_to sizes) P premises block goal → HoldsAfter all_sizes P premises block goal
-leads P B block premises goal sizes p w profile templates template enough small =
-    λ s t _ st axioms meets step elements placed.
-    by_refutation (clause_value P t goal elements) (λ h.
+-- a step under a premise that goes down, to a structure that refutes the goal
+pub leads_small : (P : Protocol) (block : Block) (Premise Goal : Structure → Type 0) (counts sizes : List ℕ) → IsAccepted P → IsWellSortedBlock P block → IsBlockInProfile block → GoesDown P Premise → AreEnough P (needed_for_block P block counts) sizes
+    → ((s t : Structure) → Belongs (up_to sizes) s → IsStructure P s → SatisfiesAxioms P s → Premise s → IsStepOf P block s t → Goal t)
+    → (s t : Structure) → IsStructure P s → SatisfiesAxioms P s → Premise s → IsStepOf P block s t → Refuted P t Goal counts → ⊥
+leads_small P block Premise Goal counts sizes p w profile down enough small s t st axioms met step refuted =
     let env = environment_of step.arguments step.choices in
     let found = find_code P env block.code s t profile.direct step.leaves in
-    let marks = step_marks P block step.arguments step.choices found.marks elements in
+    let broken = refuted.marks in
+    let marks = step_marks P block step.arguments step.choices found.marks broken in
     let made = small_cut P s marks p.sorted st in
     let stands = stand P s made.chosen made.small made.is_cut in
     let maps = numbering s made.chosen in
-    let placed_marks = placement_marks elements (length P.sorts) in
-    let rest = holds_right made.chosen (tuple_marks block.parameters step.arguments) (tuple_marks block.choices step.choices ++ (found.marks ++ placed_marks)) made.holds in
-    let last = holds_right made.chosen (tuple_marks block.choices step.choices) (found.marks ++ placed_marks) rest in
-    let given_chosen = tuple_chosen made.chosen block.parameters step.arguments (holds_left made.chosen (tuple_marks block.parameters step.arguments) (tuple_marks block.choices step.choices ++ (found.marks ++ placed_marks)) made.holds) in
-    let picked_chosen = tuple_chosen made.chosen block.choices step.choices (holds_left made.chosen (tuple_marks block.choices step.choices) (found.marks ++ placed_marks) rest) in
-    let left = block_left P block s t made.chosen made.small step.arguments step.choices w profile.direct st made.is_cut step.given step.chosen given_chosen picked_chosen (found.enough made.chosen (holds_left made.chosen found.marks placed_marks last)) step.leaves in
-    let after_structure = executes_structure P block s t step.arguments step.choices w step.given step.chosen st step.leaves in
-    let held = variables_chosen P made.chosen goal.counts t.sizes elements template.one_count_each placed (holds_right made.chosen found.marks placed_marks last) in
-    let belongs = small_belongs P s marks (needed_for_block P block goal.counts) sizes made enough (λ sort below. count_step_marks P block step.arguments step.choices found.marks elements goal.counts t.sizes sort placed below (found.few sort)) in
+    let rest = holds_right made.chosen (tuple_marks block.parameters step.arguments) (tuple_marks block.choices step.choices ++ (found.marks ++ broken)) made.holds in
+    let last = holds_right made.chosen (tuple_marks block.choices step.choices) (found.marks ++ broken) rest in
+    let given_chosen = tuple_chosen made.chosen block.parameters step.arguments (holds_left made.chosen (tuple_marks block.parameters step.arguments) (tuple_marks block.choices step.choices ++ (found.marks ++ broken)) made.holds) in
+    let picked_chosen = tuple_chosen made.chosen block.choices step.choices (holds_left made.chosen (tuple_marks block.choices step.choices) (found.marks ++ broken) rest) in
+    let left = block_left P block s t made.chosen made.small step.arguments step.choices w profile.direct st made.is_cut step.given step.chosen given_chosen picked_chosen (found.enough made.chosen (holds_left made.chosen found.marks broken last)) step.leaves in
+    let belongs = small_belongs P s marks (needed_for_block P block counts) sizes made enough (λ sort below. count_step_marks P block step.arguments step.choices found.marks broken counts sort (found.few sort) (refuted.few sort below)) in
     let small_step : IsStepOf P block made.small left.after = record {
       arguments = images (place_of made.chosen) block.parameters step.arguments;
       choices = images (place_of made.chosen) block.choices step.choices;
@@ -181,8 +174,37 @@ leads P B block premises goal sizes p w profile templates template enough small 
       chosen = places_inside P s made.chosen made.small block.choices step.choices st made.is_cut step.chosen picked_chosen;
       leaves = left.leaves;
     } in
-    let met = small made.small left.after belongs made.is_cut.structure (axioms_restricted P made.small s maps p stands axioms) (λ c k. meets_restricted P B made.small s maps c stands (templates c k) (meets c k)) small_step in
-    contradiction (clause_value P left.after goal (image_of_placement P (place_of made.chosen) elements)) (clause_value P t goal elements)
-    (cut_value P B goal t made.chosen left.after elements template after_structure left.is_cut placed held)
-    (met (image_of_placement P (place_of made.chosen) elements) (numbered_placements P goal.counts t made.chosen left.after elements after_structure left.is_cut placed held))
-    h)
+    let reached = small made.small left.after belongs made.is_cut.structure (axioms_restricted P made.small s maps p stands axioms) (down made.small s maps stands met) small_step in
+    refuted.refutes made.chosen left.after left.is_cut (holds_right made.chosen found.marks broken last) reached
+
+contradiction : (a b : Bool) → a ≡ b → a ≡ true → b ≡ false → ⊥
+contradiction a b same h k = let n : ⊥ = cc in n
+
+clause_refuted : (P : Protocol) (B : Bounds) (t : Structure) (goal : Clause) (elements : List (List ℕ)) → IsStructure P t → IsTemplate P B goal → ArePlacements P goal.counts t.sizes elements → clause_value P t goal elements ≡ false → Refuted P t (λ u. Meets P u goal) goal.counts
+clause_refuted P B t goal elements st template placed h = record {
+  marks = placement_marks elements (length P.sorts);
+  few = λ sort below.
+      let c = (count_placed elements (length P.sorts) sort).few in
+      let found = slice_get-some P.sorts sort below in
+      let d = (placed.each sort found.0 found.1).one_each in
+      omega (arith, c, d);
+  refutes = λ chosen small is holds met.
+      let held = variables_chosen P chosen goal.counts t.sizes elements template.one_count_each placed holds in
+      contradiction (clause_value P small goal (image_of_placement P (place_of chosen) elements)) (clause_value P t goal elements)
+      (cut_value P B goal t chosen small elements template st is placed held)
+      (met (image_of_placement P (place_of chosen) elements) (numbered_placements P goal.counts t chosen small elements st is placed held))
+      h;
+}
+
+-- what the block leaves is a structure
+pub step_structure : (P : Protocol) (block : Block) (s t : Structure) → IsWellSortedBlock P block → IsStructure P s → IsStepOf P block s t → IsStructure P t
+step_structure P block s t w st step = executes_structure P block s t step.arguments step.choices w step.given step.chosen st step.leaves
+
+pub leads : (P : Protocol) (B : Bounds) (block : Block) (premises : List Clause) (goal : Clause) (sizes : List ℕ) → IsAccepted P → IsWellSortedBlock P block → IsBlockInProfile block → ((c : Clause) → Contains premises c → IsTemplate P B c) → IsTemplate P B goal → AreEnough P (needed_for_block P block goal.counts) sizes → HoldsAfter (up_to sizes) P premises block goal → HoldsAfter all_sizes P premises block goal
+leads P B block premises goal sizes p w profile templates template enough small =
+    λ s t _ st axioms meets step elements placed.
+    by_refutation (clause_value P t goal elements) (λ h.
+    leads_small P block (λ u. MeetsEach P u premises) (λ u. Meets P u goal) goal.counts sizes p w profile
+    (λ own large maps stands met c k. meets_restricted P B own large maps c stands (templates c k) (met c k))
+    enough small s t st axioms meets step
+    (clause_refuted P B t goal elements (step_structure P block s t w st step) template placed h))

@@ -1,7 +1,7 @@
 //! Laws over every protocol: of restriction to embedded structures and cuts, of small models, and of the use of an
 //! answer.
 ghost use Rattle.std.specs.Prelude.{◌≡◌, ◌↔◌, ℕ, ◌<◌, ◌≤◌, Bool, true, false, List, Some, slice_get, length, max, ◌+◌, ◌⊎◌, IsTrue};
-ghost use Rattle.std.specs.List.{Contains};
+ghost use Rattle.std.specs.List.{All, Contains};
 ghost use Rattle.dai_model.specs.Formula.{Formula, Statements};
 ghost use Rattle.dai_model.specs.Protocol.{Protocol, Block, Invariant};
 ghost use Rattle.dai_model.specs.Structure.{Structure, IsStructure, size_of};
@@ -22,7 +22,7 @@ ghost use Rattle.dai_model.specs.Report.{IsReport};
 ghost use Rattle.dai_cut.specs.Embedding.{images, IsEmbedding, IsEmbeddedAt, is_image, image_of_placement};
 ghost use Rattle.dai_cut.specs.Among.{value_among, within, IsWitnessed, HaveWitnesses};
 ghost use Rattle.dai_cut.specs.Cut.{count_below, nth_below, numbering, place_of, IsClosed, IsCut, AreChosen, VariablesAreChosen, Element, count_in, HoldsEach};
-ghost use Rattle.dai_cut.specs.Small.{HoldsAfter, HoldsAtFirst, Follows, AreEnough, bound_counts};
+ghost use Rattle.dai_cut.specs.Small.{HoldsAfter, HoldsAtFirst, Follows, IsUniversalClaim, IsTrueAfter, IsTrueAtFirst, IsTrueGiven, AreEnough, bound_counts};
 
 /// The numbers that pass a test are numbered in order: each has the count of those below it as its number.
 pub fn numbering_is_in_order()
@@ -98,6 +98,15 @@ pub fn small_structures_decide_entailment()
 pub fn small_structures_decide_steps()
     ensures steps { (P : Protocol) (B : Bounds) (block : Block) (premises : List Clause) (goal : Clause) (sizes : List ℕ) → IsAccepted P → IsWellSortedBlock P block → IsBlockInProfile block → ((c : Clause) → Contains premises c → IsTemplate P B c) → IsTemplate P B goal → AreEnough P (needed_for_block P block goal.counts) sizes → HoldsAfter (up_to sizes) P premises block goal → HoldsAfter all_sizes P premises block goal }
     ensures initial { (P : Protocol) (B : Bounds) (goal : Clause) (sizes : List ℕ) → IsAccepted P → IsTemplate P B goal → AreEnough P (needed_for_block P P.init goal.counts) sizes → HoldsAtFirst (up_to sizes) P goal → HoldsAtFirst all_sizes P goal }
+{}
+
+/// The small-model laws where the premises and the goal are closed formulas that are universal in force: over the
+/// structures of enough elements the goal is true after each step by the block, in each initial state, or wherever the
+/// premises are, exactly where it is so over all structures.
+pub fn small_structures_decide_formulas()
+    ensures steps { (P : Protocol) (block : Block) (premises : List Formula) (f : Formula) (sizes : List ℕ) → IsAccepted P → IsWellSortedBlock P block → IsBlockInProfile block → All (IsUniversalClaim P) premises → IsUniversalClaim P f → AreEnough P (needed_for_block P block (bound_counts P f)) sizes → IsTrueAfter (up_to sizes) P premises block f ↔ IsTrueAfter all_sizes P premises block f }
+    ensures initial { (P : Protocol) (f : Formula) (sizes : List ℕ) → IsAccepted P → IsUniversalClaim P f → AreEnough P (needed_for_block P P.init (bound_counts P f)) sizes → IsTrueAtFirst (up_to sizes) P f ↔ IsTrueAtFirst all_sizes P f }
+    ensures implied { (P : Protocol) (premises : List Formula) (f : Formula) (sizes : List ℕ) → IsAccepted P → All (IsUniversalClaim P) premises → IsUniversalClaim P f → AreEnough P (needed_for_implied P (bound_counts P f)) sizes → IsTrueGiven (up_to sizes) P premises f ↔ IsTrueGiven all_sizes P premises f }
 {}
 
 /// The small-model law for the answer: at sizes no smaller than the bounds of the protocol, which are enough themselves,
