@@ -11,11 +11,11 @@ use Rattle.dai_circuit.specs.declared.bit.Bit.{Bit}
 use Rattle.dai_circuit.specs.declared.bit.Bit.TheVariants.{Known, Is}
 use Rattle.dai_circuit.specs.Circuits.{same_value, lit_value, bit_value, opposite, negation_of, is_known, literals_of, literal_of, signed, IsBitBelow, AreBitsBelow, all_true, variable}
 
-same_true : (wanted value : Bool) → same_value wanted value ≡ true → value ≡ wanted
+pub same_true : (wanted value : Bool) → same_value wanted value ≡ true → value ≡ wanted
 same_true true value h = h
 same_true false value h = not-true value h
 
-true_same : (wanted value : Bool) → value ≡ wanted → same_value wanted value ≡ true
+pub true_same : (wanted value : Bool) → value ≡ wanted → same_value wanted value ≡ true
 true_same true value h = h
 true_same false value h = not_from_false value h
 

@@ -1,8 +1,9 @@
-use Rattle.std.specs.Prelude.{◌≡◌, ◌+◌, ◌<◌, ◌≤◌, ◌∷◌, [], ℕ, Bool, true, false, not, Option, None, Some, Result, List, IfOk, map}
+use Rattle.std.specs.Prelude.{◌≡◌, ◌+◌, ◌<◌, ◌≤◌, ◌∷◌, [], ℕ, Bool, true, false, not, Option, None, Some, Result, List, IfOk, Vec, map}
 use Rattle.std.specs.List.{All, list_all, list_any, filter_map}
 use Rattle.dai_base.specs.declared.memory.Spent.{Spent}
 use Rattle.dai_trail.specs.declared.cnf.Lit.{Lit}
-use Rattle.dai_trail.specs.Formula.{Formula, IsBelow, AreMetBy, value_at}
+use Rattle.std.specs.declared.alloc.Global.{Global}
+use Rattle.dai_trail.specs.Formula.{Formula, IsBelow, AreMetBy, IsModelOf, value_at}
 use Rattle.dai_circuit.specs.declared.bit.Bit.{Bit}
 use Rattle.dai_circuit.specs.declared.bit.Bit.TheVariants.{Known, Is}
 
@@ -109,3 +110,13 @@ pub record Requires (old new : Formula) (parts : List Bit) : Type 0 where
 -- unless a literal is true, a variable has the value of another literal
 abbrev pub IsTied : Lit → ℕ → Lit → List Bool → Type 0
 IsTied guard var other bits = lit_value bits guard ≡ false → value_at bits var ≡ lit_value bits other
+
+-- an assignment of all variables that meets the clauses and makes each bit true; or none where there is no such assignment
+abbrev pub IsModelUnder : Formula → List Bit → Option (Vec Bool Global) → Type 0
+IsModelUnder formula parts None = (bits : List Bool) → AreMetBy formula bits → all_value parts bits ≡ true → ⊥
+IsModelUnder formula parts (Some model) = IsModelOf formula model.items × (all_value parts model.items ≡ true)
+
+-- the literals of bits, none of which is known to be false
+pub record AreLiteralsOf (parts : List Bit) (lits : List Lit) : Type 0 where
+  pub none_false : list_any (is_known false) parts ≡ false
+  pub lits_are : lits ≡ literals_of parts

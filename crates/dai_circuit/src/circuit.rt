@@ -1,23 +1,38 @@
 ghost use Rattle.std.specs.Prelude.{◌≡◌, ◌+◌, ◌<◌, ◌++◌, ◌∷◌, [], List, Bool, true, false, IfOk, OnOk, OnErr};
-ghost use Rattle.dai_trail.specs.Formula.{IsBelow, AreMetBy, formula_of, value_at};
-ghost use Rattle.dai_circuit.specs.Circuits.{AreBitsBelow, IsBitBelow, IsBitFor, Extends, Defines, Adds, Requires, IsTied, IsOver, bit_value, lit_value, same_value, all_value, any_value, all_true, variable};
+ghost use Rattle.dai_trail.specs.Formula.{Formula, IsBelow, AreMetBy, formula_of, value_at};
+ghost use Rattle.dai_trail.specs.declared.cnf.Lit.{Lit};
+ghost use Rattle.dai_sat.specs.Under.{IsOutcomeOf};
+ghost use Rattle.dai_circuit.specs.declared.bit.Bit.{Bit};
+ghost use Rattle.dai_circuit.specs.Circuits.{AreBitsBelow, IsBitBelow, IsBitFor, Extends, Defines, Adds, Requires, IsTied, IsOver, bit_value, lit_value, same_value, all_value, any_value, all_true, variable, IsModelUnder, AreLiteralsOf};
 
 use crate::bit::{Bit, opposite};
 use crate::parts::{converse, has_known, literals, negations};
 use dai_base::Spent;
+use dai_sat::{Outcome, Solver};
 use dai_trail::codes::MOST_VARS;
 use dai_trail::{Cnf, Lit};
 use std::alloc::Global;
 use std::marker::Model;
 
-/// A formula in conjunctive form that grows by definitions. A contract sees the formula.
+/// The model of an outcome, if it is one.
+fn model_of(outcome: Outcome) -> Option<Vec<bool>>
+    ensures { (f : Formula) (parts : List Bit) (lits : List Lit) → IsOver f → AreBitsBelow f.vars parts → AreLiteralsOf parts lits → IsOutcomeOf f lits outcome → IsModelUnder f parts result }
+{
+    match outcome {
+        Outcome::Model(model) => Some(model),
+        Outcome::Unsat(_) => None,
+    }
+}
+
+/// A formula in conjunctive form that grows by definitions. A contract sees the formula. It is asked for models by one
+/// solver, which keeps what it learned.
 ///
 /// Each operation answers `Spent` where memory is wanting, where the formula would have more than 2^31 - 1
 /// variables, and where its clauses together would have 2^32 literals. Definitions that were begun then stay,
 /// which constrain nothing.
 #[derive(Drop)]
 pub struct Circuit {
-    cnf: Cnf,
+    solver: Solver,
     alloc: Global,
 }
 
@@ -27,9 +42,9 @@ impl Model for Circuit {
 
     ghost Value = { Formula };
 
-    ghost view = { λ c. c.cnf };
+    ghost view = { λ c. c.solver };
 
-    ghost invariant = { λ c. IsOver c.cnf };
+    ghost invariant = { λ c. IsOver c.solver };
 }
 
 impl Circuit {
@@ -37,17 +52,14 @@ impl Circuit {
     pub fn new(alloc: Global) -> Circuit
         ensures { result ≡ formula_of 0 [] }
     {
-        Circuit {
-            cnf: Cnf::new(alloc, 0),
-            alloc,
-        }
+        Circuit::over(alloc, Cnf::new(alloc, 0))
     }
 
     /// The formula of the circuit.
     pub fn formula(&self) -> &Cnf
         ensures { result.now ≡ self.now }
     {
-        &self.cnf
+        self.solver.formula()
     }
 
     /// The circuit of a formula, which may grow. Takes no memory.
@@ -55,7 +67,10 @@ impl Circuit {
         requires { IsOver cnf }
         ensures { result ≡ cnf }
     {
-        Circuit { cnf, alloc }
+        Circuit {
+            solver: Solver::new(alloc, cnf),
+            alloc,
+        }
     }
 
     /// The formula, without the circuit.
@@ -63,7 +78,25 @@ impl Circuit {
         ensures same { result ≡ self }
         ensures over { IsOver result }
     {
-        self.cnf
+        self.solver.into_formula()
+    }
+
+    /// Looks for an assignment that meets the formula and in which all these bits are true. `None` comes exactly where
+    /// there is none.
+    ///
+    /// # Errors
+    /// `Spent` where memory is wanting. The formula is as it was in each case.
+    pub fn model_under(&mut self, parts: &[Bit]) -> Result<Option<Vec<bool>>, Spent>
+        requires { AreBitsBelow self.old.vars parts.now }
+        ensures same { self.new ≡ self.old }
+        ensures model { IfOk result (IsModelUnder self.old parts.now) }
+    {
+        if has_known(parts, false) {
+            return Ok(None);
+        }
+        let lits = literals(self.alloc, parts)?;
+        let outcome = self.solver.solve_under(lits.as_slice())?;
+        Ok(model_of(outcome))
     }
 
     /// A new variable, which is free.
@@ -72,10 +105,10 @@ impl Circuit {
         ensures err { OnErr result (self.new ≡ self.old) }
         ensures over { IsOver self.old }
     {
-        if self.cnf.vars() >= MOST_VARS {
+        if self.solver.formula().vars() >= MOST_VARS {
             return Err(Spent);
         }
-        Ok(self.cnf.grow())
+        Ok(self.solver.grow())
     }
 
     /// Adds a clause.
@@ -84,7 +117,7 @@ impl Circuit {
         ensures ok { OnOk result (self.new ≡ formula_of self.old.vars (self.old.clauses ++ lits.now ∷ [])) }
         ensures err { OnErr result (self.new ≡ self.old) }
     {
-        self.cnf.add(lits)
+        self.solver.add(lits)
     }
 
     /// The bit of a new variable, which is free.
