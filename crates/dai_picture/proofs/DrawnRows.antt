@@ -1,5 +1,5 @@
 -- All rows that are drawn, one kind after another.
-use Rattle.std.proofs.Common.{◌≡◌, ◌<◌, ◌≤◌, ℕ, Bool, true, false, List, [], length, map, refl, ap, sym, ◌∙◌, subst, arith}
+use Rattle.std.proofs.Common.{◌≡◌, ◌<◌, ◌≤◌, ℕ, Bool, true, false, List, [], ◌++◌, length, map, refl, ap, sym, ◌∙◌, subst, arith}
 use Rattle.std.specs.List.{All}
 use Rattle.std.proofs.lemmas.Bool.{both_ways}
 use Rattle.dai_model.specs.Protocol.{Protocol}
@@ -14,10 +14,10 @@ use Rattle.dai_picture.specs.declared.picture.Picture.{Picture}
 use Rattle.dai_picture.specs.declared.rows.Known.{Known}
 use Rattle.dai_picture.specs.declared.rows.Known.TheVariants.{Nowhere}
 use Rattle.dai_picture.specs.Pictures.{row_at, rows_of, AreRows, slots_of_each, IsFrame, IsPicture}
-use Rattle.dai_picture.specs.Rows.{is_known, AgreeBelow, HaveValues, AreFreeRows}
+use Rattle.dai_picture.specs.Rows.{is_known, AgreeBelow, HaveValues, AreFreeRows, NumberFrom, all_bits}
 use Rattle.dai_picture.specs.Drawing.{AreDrawn}
 use Rattle.dai_picture.proofs.Declared.{sorts_in}
-use Rattle.dai_picture.proofs.FreeRows.{row_kept, row_below, rows_weaker}
+use Rattle.dai_picture.proofs.FreeRows.{numbered_append, row_kept, row_below, rows_weaker}
 
 -- rows stay right when the count of variables grows
 pub rows_grow : (n m : ℕ) (lengths : List ℕ) (rows : List (List Bit)) → n ≤ m → AreRows n lengths rows → AreRows m lengths rows
@@ -82,6 +82,9 @@ drawn P parameters choices slots which a b c d e f x one_each inhabited same use
         shown = own (λ s. IsPicture P s x.start x.picture) (shown x.start (omega arith));
       };
       within = omega arith;
+      in_order = λ is.
+          let behind : NumberFrom c.vars x.start (all_bits V ++ all_bits C) = subst (λ n. NumberFrom c.vars n (all_bits V ++ all_bits C)) (sym start) (numbered_append c.vars d.vars e.vars (all_bits V) (all_bits C) (values.numbered refl) (chosen.numbered refl)) in
+          subst (λ n. NumberFrom n x.start (all_bits T ++ (all_bits V ++ all_bits C))) (used.none is) (numbered_append b.vars c.vars x.start (all_bits T) (all_bits V ++ all_bits C) (tables.numbered refl) behind);
       known = used.known;
       free = λ u t v w g fixed.
           let one = used.free [] u fixed in

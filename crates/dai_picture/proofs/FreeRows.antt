@@ -1,8 +1,8 @@
 -- Rows of new bits, one after another.
-use Rattle.std.proofs.Common.{◌≡◌, ◌+◌, ◌<◌, ◌≤◌, ℕ, zero, suc, Bool, true, false, List, [], ◌∷◌, ◌++◌, length, get_or, take, refl, ap, sym, ◌∙◌, subst, arith, inl, inr, ◌⊎◌, Result, Ok, Err, IfOk}
+use Rattle.std.proofs.Common.{◌≡◌, ◌+◌, ◌<◌, ◌≤◌, ℕ, zero, suc, Bool, true, false, List, [], ◌∷◌, ◌++◌, length, get_or, take, append_assoc, refl, ap, sym, ◌∙◌, subst, arith, inl, inr, ◌⊎◌, Result, Ok, Err, IfOk}
 use Rattle.std.specs.List.{All}
 use Rattle.std.proofs.lemmas.Bool.{cases_lt, both_ways}
-use Rattle.std.proofs.lemmas.List.{get_or_append_left, get_or_push, get_or_past, length_push, length-map, length-take-le, take_more, map_push}
+use Rattle.std.proofs.lemmas.List.{append-nil, get_or_append_left, get_or_push, get_or_past, length_push, length-map, length-take-le, take_more, map_push}
 use Rattle.std.proofs.lemmas.List.Elements.{All-push, All-nil, All-weaker}
 use Rattle.dai_base.specs.declared.memory.Spent.{Spent}
 use Rattle.dai_trail.specs.Formula.{Formula, formula_of, value_at}
@@ -10,8 +10,9 @@ use Rattle.dai_circuit.specs.declared.bit.Bit.{Bit}
 use Rattle.dai_circuit.specs.declared.bit.Bit.TheVariants as Bits
 use Rattle.dai_circuit.specs.Circuits.{bit_value, same_value, variable, IsBitBelow, AreBitsBelow}
 use Rattle.dai_picture.specs.declared.rows.Known.{Known}
+use Rattle.dai_picture.specs.declared.rows.Known.TheVariants.{Nowhere, Everywhere}
 use Rattle.dai_picture.specs.Pictures.{row_at, bit_at}
-use Rattle.dai_picture.specs.Rows.{is_known, AgreeBelow, IsFreeBit, IsFreeRow, AreFreeRows}
+use Rattle.dai_picture.specs.Rows.{is_known, AgreeBelow, NumberFrom, all_bits, IsFreeBit, IsFreeRow, AreFreeRows}
 
 -- ---- what bits below a count say
 pub bit_kept : (count : ℕ) (bits more : List Bool) (bit : Bit) → AgreeBelow count more bits → IsBitBelow count bit → bit_value more bit ≡ bit_value bits bit
@@ -65,6 +66,24 @@ put_below [] (suc n) value (suc var) l = put_below [] n value var (omega arith)
 put_below (b ∷ bits) (suc n) value zero l = refl
 put_below (b ∷ bits) (suc n) value (suc var) l = put_below bits n value var (omega arith)
 
+-- ---- new variables, one after another
+numbered_from : (a b c : ℕ) (bits : List Bit) → a ≡ b → NumberFrom b c bits → NumberFrom a c bits
+numbered_from a b c bits e h = subst (λ n. NumberFrom n c bits) (sym e) h
+
+pub numbered_append : (a b c : ℕ) (xs ys : List Bit) → NumberFrom a b xs → NumberFrom b c ys → NumberFrom a c (xs ++ ys)
+numbered_append a b c [] ys h g = numbered_from a b c ys h g
+numbered_append a b c (x ∷ xs) ys h g = (h.0, numbered_append (a + 1) b c xs ys h.1 g)
+
+pub all_bits-push : (rows : List (List Bit)) (row : List Bit) → all_bits (rows ++ row ∷ []) ≡ all_bits rows ++ row
+all_bits-push [] row = append-nil row
+all_bits-push (r ∷ rows) row = ap (λ xs. r ++ xs) (all_bits-push rows row) ∙ sym (append_assoc r (all_bits rows) row)
+
+both_known : (which : Known) (n : ℕ) → which ≡ Everywhere → is_known which n ≡ true
+both_known which n e = ap (λ w. is_known w n) e
+
+none_known : (which : Known) (n : ℕ) → which ≡ Nowhere → is_known which n ≡ false
+none_known which n e = ap (λ w. is_known w n) e
+
 -- ---- a bit
 pub bit_known : (f : Formula) (fixed : Bool) → fixed ≡ true → IsFreeBit f f fixed (Bits.Known true)
 bit_known f fixed is = record {
@@ -72,6 +91,8 @@ bit_known f fixed is = record {
   grows = omega arith;
   below = tt;
   known = λ k. refl;
+  none = λ k. refl;
+  numbered = λ k. absurd (both_ways fixed k is);
   free = λ bits value k. (bits, λ var l. refl, sym (k is));
 }
 
@@ -81,6 +102,8 @@ bit_new f fixed is = record {
   grows = omega arith;
   below = omega arith;
   known = λ k. absurd (both_ways fixed is k);
+  none = λ k. absurd (both_ways fixed is k);
+  numbered = λ k. (refl, refl);
   free = λ bits value k. (put bits f.vars value, put_below bits f.vars value, put_here bits f.vars value);
 }
 
@@ -96,6 +119,8 @@ row_none f which = record {
   long = refl;
   below = All-nil (IsBitBelow f.vars);
   known = λ slot l is. absurd (omega arith);
+  none = λ is. refl;
+  numbered = λ is. refl;
   free = λ bits values k. (bits, λ var l. refl, λ slot l. absurd (omega arith));
 }
 
@@ -122,6 +147,8 @@ row_push a b c which n row bit r s =
                 let here = last_slot row bit slot l past in
                 high slot here ∙ s.known (subst (λ x. is_known which x ≡ true) (sym here ∙ long) is)
           ];
+      none = λ is. s.none (both_known which n is) ∙ r.none is;
+      numbered = λ is. numbered_append a.vars b.vars c.vars row (bit ∷ []) (r.numbered is) (s.numbered (none_known which n is));
       free = λ bits values fixed.
           let one = r.free bits values (λ slot l is. fixed slot (omega arith) is) in
           let two = s.free one.0 (values n) (λ is. fixed n (omega arith) is) in
@@ -146,6 +173,8 @@ rows_none f which = record {
   grows = omega arith;
   rows = record { long = refl; below = All-nil (AreBitsBelow f.vars) };
   known = λ k slot l m is. absurd (omega arith);
+  none = λ is. refl;
+  numbered = λ is. refl;
   free = λ bits values fixed. (bits, λ var l. refl, λ k slot l m. absurd (omega arith));
 }
 
@@ -177,6 +206,8 @@ rows_push a b c which lengths n rows row inside r s =
                 let e = high k (last_row rows row k l past) in
                 ap (λ x. bit_at x slot) e ∙ s.known slot (subst (λ x. slot < length x) e m) is
           ];
+      none = λ is. s.none is ∙ r.none is;
+      numbered = λ is. subst (NumberFrom a.vars c.vars) (sym (all_bits-push rows row)) (numbered_append a.vars b.vars c.vars (all_bits rows) row (r.numbered is) (s.numbered is));
       free = λ bits values fixed.
           let one = r.free bits values (λ k slot l m is. fixed k slot (omega arith) (subst (λ x. slot < length x) (sym (low k l)) m) is) in
           let two = s.free one.0 (values n) (λ slot l is. fixed n slot (omega arith) (subst (λ x. slot < length x) (sym (high n count)) l) is) in

@@ -1,5 +1,5 @@
 //! The picture of all structures with at most so many elements of each type.
-ghost use Rattle.std.specs.Prelude.{◌≡◌, ◌<◌, ◌≤◌, [], length, map, IfOk, OnOk};
+ghost use Rattle.std.specs.Prelude.{◌≡◌, ◌<◌, ◌≤◌, true, [], length, map, IfOk, OnOk};
 ghost use Rattle.std.specs.List.{All};
 ghost use Rattle.dai_trail.specs.Formula.{formula_of};
 ghost use Rattle.dai_logic.specs.Counts.{tuple_count};
@@ -8,7 +8,7 @@ ghost use Rattle.dai_picture.specs.Pictures.{rows_of, slots_of_each, IsFrame, Is
 ghost use Rattle.dai_picture.specs.Worlds.{Draws};
 ghost use Rattle.dai_picture.specs.Rows.{AreFreeRows};
 ghost use Rattle.dai_picture.specs.Rules.{Constrains, AreBegun};
-ghost use Rattle.dai_picture.specs.Drawing.{known_of, AreBefore, AreDrawn, AreRuled};
+ghost use Rattle.dai_picture.specs.Drawing.{known_of, AreBefore, AreInOrder, AreDrawn, AreRuled};
 
 use crate::lengths;
 use crate::picture::{Frame, Picture};
@@ -148,9 +148,10 @@ fn rule_rows(
 
 /// The picture of all structures of the protocol with at most so many elements of each type, or with exactly
 /// so many, and a frame with parameters and locals of these types: each assignment that meets the clauses shows
-/// one of these structures, and each is shown by one. There is at least one slot of each type. The circuit is
-/// empty before; `Spent` comes where memory is wanting, where the variables or clauses are too many for a
-/// formula, and where a relation has 2^64 tuples of slots.
+/// one of these structures, and each is shown by one. There is at least one slot of each type. With exactly so many,
+/// the first variables are the bits of the tables, the values and the choices, in this order. The circuit is empty
+/// before; `Spent` comes where memory is wanting, where the variables or clauses are too many for a formula, and
+/// where a relation has 2^64 tuples of slots.
 pub fn draw(
     alloc: Global,
     circuit: &mut Circuit,
@@ -171,6 +172,7 @@ pub fn draw(
     ensures draws { IfOk result (λ d. Draws (protocol_of protocol.now) parameters.now locals.now exact circuit.new d.frame d.picture) }
     ensures before { IfOk result (λ d. AreBefore (protocol_of protocol.now) locals.now d.start d.frame d.picture) }
     ensures within { IfOk result (λ d. d.start ≤ circuit.new.vars) }
+    ensures in_order { IfOk result (λ d. exact ≡ true → AreInOrder 0 d.start d.frame d.picture) }
 {
     let known = known_slots(exact);
     let drawing = draw_rows(alloc, circuit, protocol, parameters, locals, slots, known)?;
