@@ -11,7 +11,6 @@ use Rattle.dai_model.specs.Protocol.{Protocol, Block}
 use Rattle.dai_model.specs.Structure.{Structure, is_tuple}
 use Rattle.dai_model.specs.Value.{Environment, value_of, empty_environment, Satisfies}
 use Rattle.dai_model.specs.WellSorted.{IsWellSorted, closed_scope}
-use Rattle.dai_trail.specs.declared.cnf.Cnf.{Cnf}
 use Rattle.dai_trail.specs.declared.cnf.Lit.{Lit}
 use Rattle.dai_trail.specs.Formula.{Formula, IsModelOf, IsTrueAt, IsUnsatisfiable, AreMetBy, value_at}
 use Rattle.dai_sat.specs.declared.answer.Outcome.{Outcome}
@@ -36,10 +35,11 @@ use Rattle.dai_picture.specs.Decoding.{IsDecodable}
 use Rattle.dai_picture.specs.Worlds.{World, IsWorld, ShowsWorld}
 use Rattle.dai_ground.specs.declared.found.Found.{Found}
 use Rattle.dai_ground.specs.declared.wide.Wide.{Wide}
-use Rattle.dai_ground.specs.Asking.{Asks, Refutes, RestrictsTo, HasTruth, IsKnown, IsBroken, block_asked, parameters_asked, choices_asked, outcome_of}
-use Rattle.dai_ground.specs.Answers.{world_of, IsFound, NoneRefutes, picked}
-use Rattle.dai_ground.specs.Questions.{IsQuestion}
-use Rattle.dai_ground.specs.Turns.{IsSolution, IsCaller, IsFoundFrom, IsRefined, IsOpenQuestion, world_decoded}
+use Rattle.dai_picture.proofs.SameWorld.{world_kept, one_world}
+use Rattle.dai_ground.specs.Asking.{Asks, Refutes, RefutesFrom, HasTruth, IsKnown, IsBroken, block_asked, parameters_asked, choices_asked, outcome_of}
+use Rattle.dai_ground.specs.Answers.{IsFound, NoneRefutes, picked}
+use Rattle.dai_ground.specs.Questions.{IsQuestion, IsDecided, AgreeInFront, IsDecoded, IsAnswer, IsSceneOf, IsRefined, world_of}
+use Rattle.dai_ground.specs.Turns.{IsSolution, IsCaller, IsFoundFrom, IsOpenQuestion, world_decoded}
 use Rattle.dai_ground.proofs.Askings.{asks_structure, asks_as}
 use Rattle.dai_ground.proofs.Posings.{frame_kept, picture_kept}
 
@@ -122,14 +122,14 @@ none_refutes P asked premises f sizes q over none open' = λ w is met refutes.
     none_meets q.cnf one.0 over none one.1
 
 -- what a model shows
-pub decodable_of : (P : Protocol) (asked : Option Block) (premises : List Model.Formula) (f : Model.Formula) (sizes : List ℕ) (q : Wide) (model : List Bool) → IsModelOf q.cnf model → IsOpenQuestion P asked premises f sizes q → IsDecodable P q.frame q.picture model
-decodable_of P asked premises f sizes q model is open' =
-    let shown = open'.asks.shows model is.meets in
+pub decodable_of : (P : Protocol) (asked : Option Block) (exact : Bool) (sizes : List ℕ) (before : List Model.Formula) (broken : Option Model.Formula) (q : Wide) (model : List Bool) → IsModelOf q.cnf model → IsQuestion P asked exact sizes before broken q → IsDecodable P q.frame q.picture model
+decodable_of P asked exact sizes before broken q model is h =
+    let shown = h.asks.shows model is.meets in
     record {
       parameters = parameters_asked asked;
       locals = choices_asked asked;
-      frame = subst (λ n. IsFrame P (parameters_asked asked) (choices_asked asked) n q.frame) (sym is.whole) open'.drawn;
-      picture = subst (λ n. IsPicture P q.frame.slots.items n q.picture) (sym is.whole) (subst (λ ss. IsPicture P ss q.cnf.vars q.picture) (sym open'.slots_are) open'.pictured);
+      frame = subst (λ n. IsFrame P (parameters_asked asked) (choices_asked asked) n q.frame) (sym is.whole) h.drawn;
+      picture = subst (λ n. IsPicture P q.frame.slots.items n q.picture) (sym is.whole) (subst (λ ss. IsPicture P ss q.cnf.vars q.picture) (sym h.slots_are) h.pictured);
       world = shown.0;
       shown = shown.2;
     }
@@ -140,80 +140,136 @@ pub record AreDecoded (P : Protocol) (frame : Frame) (picture : Picture) (model 
   pub arguments : (w : World) → ShowsWorld P frame picture model w → d.args.items ≡ w.arguments
   pub choices : (w : World) → ShowsWorld P frame picture model w → d.choices.items ≡ w.choices
 
-decoded_world : (P : Protocol) (frame : Frame) (picture : Picture) (model : List Bool) (d : Decoded) (w : World) → AreDecoded P frame picture model d → ShowsWorld P frame picture model w → world_decoded P d ≡ w
+pub decoded_world : (P : Protocol) (frame : Frame) (picture : Picture) (model : List Bool) (d : Decoded) (w : World) → AreDecoded P frame picture model d → ShowsWorld P frame picture model w → world_decoded P d ≡ w
 decoded_world P frame picture model d w are shows = λ i. record { structure = are.structure w shows i; arguments = are.arguments w shows i; choices = are.choices w shows i }
 
-pub caller_of : (P : Protocol) (block : Option BlockId) (premises : List Model.Formula) (f : Model.Formula) (sizes : List ℕ) (q : Wide) (model : List Bool) (d : Decoded) → IsModelOf q.cnf model → IsOpenQuestion P (block_asked P block) premises f sizes q → AreDecoded P q.frame q.picture model d → IsCaller P block d
-caller_of P block premises f sizes q model d is open' are =
+pub caller_of : (P : Protocol) (block : Option BlockId) (exact : Bool) (sizes : List ℕ) (before : List Model.Formula) (broken : Option Model.Formula) (q : Wide) (model : List Bool) (d : Decoded) → IsModelOf q.cnf model → IsQuestion P (block_asked P block) exact sizes before broken q → AreDecoded P q.frame q.picture model d → IsCaller P block d
+caller_of P block exact sizes before broken q model d is h are =
     let asked = block_asked P block in
-    let shown = open'.asks.shows model is.meets in
+    let shown = h.asks.shows model is.meets in
     let same = decoded_world P q.frame q.picture model d shown.0 are shown.2 in
-    let world = subst (λ w. IsWorld P (parameters_asked asked) (choices_asked asked) false q.frame.slots.items w) (sym same) shown.1 in
-    let refutes = subst (Refutes P asked (Some f)) (sym same) shown.3 in
+    let world = subst (λ w. IsWorld P (parameters_asked asked) (choices_asked asked) exact q.frame.slots.items w) (sym same) shown.1 in
+    let refutes = subst (Refutes P asked broken) (sym same) shown.3.0 in
     record { after = refutes.after; leaves = refutes.leaves; given = world.given; chosen = world.chosen }
 
-pub found_of : (P : Protocol) (block : Option BlockId) (premises used : List Model.Formula) (f : Model.Formula) (sizes : List ℕ) (q : Wide) (model : List Bool) (d : Decoded) (x : Found) → IsModelOf q.cnf model → IsOpenQuestion P (block_asked P block) used f sizes q → AreDecoded P q.frame q.picture model d → Fits P d.structure → All (Satisfies (structure_of P d.structure)) premises → IsFoundFrom P (block_asked P block) d x → IsFound P (block_asked P block) premises f sizes x
-found_of P block premises used f sizes q model d x is open' are fits met from =
+found_world : (P : Protocol) (asked : Option Block) (d : Decoded) (x : Found) → IsFoundFrom P asked d x → world_of P x ≡ world_decoded P d
+found_world P asked d x from = λ i. record { structure = structure_of P (from.before i); arguments = from.args i; choices = from.choices i }
+
+-- what was found is what the model shows
+pub decoded_of : (P : Protocol) (block : Option BlockId) (exact : Bool) (sizes : List ℕ) (before : List Model.Formula) (broken : Option Model.Formula) (q : Wide) (model : List Bool) (d : Decoded) (x : Found) → IsModelOf q.cnf model → IsQuestion P (block_asked P block) exact sizes before broken q → AreDecoded P q.frame q.picture model d → Fits P d.structure → IsFoundFrom P (block_asked P block) d x → IsDecoded P (block_asked P block) q model x
+decoded_of P block exact sizes before broken q model d x is h are fits from =
     let asked = block_asked P block in
-    let shown = open'.asks.shows model is.meets in
+    let shown = h.asks.shows model is.meets in
     let same = decoded_world P q.frame q.picture model d shown.0 are shown.2 in
-    let own : world_of P x ≡ world_decoded P d = λ i. record { structure = structure_of P (from.before i); arguments = from.args i; choices = from.choices i } in
-    let refutes = subst (Refutes P asked (Some f)) (sym (own ∙ same)) shown.3 in
-    let here = subst (λ ss. IsWorld P (parameters_asked asked) (choices_asked asked) false ss shown.0) open'.slots_are shown.1 in
-    let leaves : outcome_of P asked (world_of P x) ≡ Some (structure_of P x.after) = ap (outcome_of P asked) own ∙ from.leaves in
-    let after : refutes.after ≡ structure_of P x.after = same_Some refutes.after (structure_of P x.after) (sym refutes.leaves ∙ leaves) in
+    let own = found_world P asked d x from in
     record {
       before_fits = subst (Fits P) (sym from.before) fits;
       after_fits = from.after_fits;
-      world = subst (λ w. IsWorld P (parameters_asked asked) (choices_asked asked) false sizes w) (sym (own ∙ same)) here;
-      premises_met = subst (λ s. All (Satisfies (structure_of P s)) premises) (sym from.before) met;
-      refutes = refutes;
-      leaves = leaves;
-      is_broken = subst (IsBroken (Some f)) after refutes.is_broken;
+      shows = subst (ShowsWorld P q.frame q.picture model) (sym (own ∙ same)) shown.2;
+      leaves = ap (outcome_of P asked) own ∙ from.leaves;
     }
 
+-- and it answers the question
+pub answer_of : (P : Protocol) (asked : Option Block) (exact : Bool) (sizes : List ℕ) (before : List Model.Formula) (broken : Option Model.Formula) (q : Wide) (model : List Bool) (x : Found) → AreMetBy q.cnf model → IsDecoded P asked q model x → IsQuestion P asked exact sizes before broken q → IsAnswer P asked exact sizes before broken x
+answer_of P asked exact sizes before broken q model x met is h =
+    let shown = h.asks.shows model met in
+    let same : shown.0 ≡ world_of P x = one_world P q.frame q.picture model shown.0 (world_of P x) shown.2 is.shows in
+    let refutes = subst (RefutesFrom P asked before broken) same shown.3 in
+    let here = subst (λ ss. IsWorld P (parameters_asked asked) (choices_asked asked) exact ss shown.0) h.slots_are shown.1 in
+    let after : refutes.0.after ≡ structure_of P x.after = same_Some refutes.0.after (structure_of P x.after) (sym refutes.0.leaves ∙ is.leaves) in
+    record {
+      before_fits = is.before_fits;
+      after_fits = is.after_fits;
+      world = subst (λ w. IsWorld P (parameters_asked asked) (choices_asked asked) exact sizes w) same here;
+      premises_met = refutes.1;
+      refutes = refutes.0;
+      leaves = is.leaves;
+      is_broken = subst (IsBroken broken) after refutes.0.is_broken;
+    }
+
+-- each assignment that agrees in front shows it too
+pub decoded_again : (P : Protocol) (asked : Option Block) (q : Wide) (model more : List Bool) (x : Found) → IsDecided P asked q → AgreeInFront q more model → IsDecoded P asked q model x → IsDecoded P asked q more x
+decoded_again P asked q model more x decided agree is = record {
+  before_fits = is.before_fits;
+  after_fits = is.after_fits;
+  shows = world_kept P (parameters_asked asked) (choices_asked asked) q.bits q.frame q.picture model more (world_of P x) decided.drawn decided.pictured agree is.shows;
+  leaves = is.leaves;
+}
+
+-- an answer that meets the premises
+pub found_of : (P : Protocol) (asked : Option Block) (premises used : List Model.Formula) (f : Model.Formula) (sizes : List ℕ) (x : Found) → IsAnswer P asked false sizes used (Some f) x → All (Satisfies (structure_of P x.before)) premises → IsFound P asked premises f sizes x
+found_of P asked premises used f sizes x h met = record {
+  before_fits = h.before_fits;
+  after_fits = h.after_fits;
+  world = h.world;
+  premises_met = met;
+  refutes = h.refutes;
+  leaves = h.leaves;
+  is_broken = h.is_broken;
+}
+
+-- a frame and a picture of a question
+pub scene_of : (P : Protocol) (asked : Option Block) (exact : Bool) (sizes : List ℕ) (before : List Model.Formula) (broken : Option Model.Formula) (q : Wide) → IsQuestion P asked exact sizes before broken q → IsSceneOf P q
+scene_of P asked exact sizes before broken q h = record {
+  parameters = parameters_asked asked;
+  choices = choices_asked asked;
+  drawn = h.drawn;
+  pictured = subst (λ ss. IsPicture P ss q.cnf.vars q.picture) (sym h.slots_are) h.pictured;
+}
+
 -- the question with one premise more
-pub refined_of : (P : Protocol) (asked : Option Block) (used more : List Model.Formula) (f g : Model.Formula) (sizes : List ℕ) (old new : Wide) → ((s : Structure) → All (Satisfies s) more → All (Satisfies s) used × HasTruth g true s) → IsRefined P g old new → IsOpenQuestion P asked used f sizes old → IsOpenQuestion P asked more f sizes new
-refined_of P asked used more f g sizes old new both_of refined open' =
+pub refined_of : (P : Protocol) (asked : Option Block) (exact : Bool) (sizes : List ℕ) (used more : List Model.Formula) (broken : Option Model.Formula) (g : Model.Formula) (old new : Wide) → ((s : Structure) → All (Satisfies s) more → All (Satisfies s) used × HasTruth g true s) → ((s : Structure) → All (Satisfies s) used → HasTruth g true s → All (Satisfies s) more) → IsRefined P g old new → IsQuestion P asked exact sizes used broken old → IsQuestion P asked exact sizes more broken new
+refined_of P asked exact sizes used more broken g old new both_of all_of refined h =
     let ps = parameters_asked asked in
     let cs = choices_asked asked in
     let grows = refined.restricts.grows in
-    let Shown : World → Type 0 = Refutes P asked (Some f) in
-    let Each : World → Type 0 = λ w. Refutes P asked (Some f) w × All (Satisfies w.structure) more in
-    let framed = subst (λ ss. IsPicture P ss old.cnf.vars old.picture) (sym open'.slots_are) open'.pictured in
-    let before = asks_structure P ps cs false (Refutes P asked (Some f)) (λ w. Refutes P asked (Some f) w × All (Satisfies w.structure) used) (HasTruth g true) old.cnf new.cnf old.frame old.picture open'.drawn framed refined.restricts open'.asks in
-    let asks = asks_as P ps cs false (λ w. Refutes P asked (Some f) w × HasTruth g true w.structure) (λ w. (Refutes P asked (Some f) w × All (Satisfies w.structure) used) × HasTruth g true w.structure) (Refutes P asked (Some f)) (λ w. Refutes P asked (Some f) w × All (Satisfies w.structure) more) new.cnf old.frame old.picture (λ w is both. both.0) (λ w is both. let parts = both_of w.structure both.1 in ((both.0, parts.0), parts.1)) before in
+    let Old : World → Type 0 = RefutesFrom P asked used broken in
+    let New : World → Type 0 = RefutesFrom P asked more broken in
+    let scene = scene_of P asked exact sizes used broken old h in
+    let before = asks_structure P ps cs exact Old Old (HasTruth g true) old.cnf new.cnf old.frame old.picture h.drawn scene.pictured refined.restricts h.asks in
+    let asks = asks_as P ps cs exact (λ w. Old w × HasTruth g true w.structure) (λ w. Old w × HasTruth g true w.structure) New New new.cnf old.frame old.picture
+    (λ w is both. (both.0.0, all_of w.structure both.0.1 both.1))
+    (λ w is both. let parts = both_of w.structure both.1 in ((both.0, parts.0), parts.1)) before in
     record {
-      slots_are = ap (λ (fr : Frame). fr.slots.items) refined.frame ∙ open'.slots_are;
-      drawn = subst (λ fr. IsFrame P ps cs new.cnf.vars fr) (sym refined.frame) (frame_kept P ps cs old.cnf.vars new.cnf.vars old.frame grows open'.drawn);
-      pictured = subst (λ pi. IsPicture P sizes new.cnf.vars pi) (sym refined.picture) (picture_kept P sizes old.cnf.vars new.cnf.vars old.picture grows open'.pictured);
-      asks = subst (λ fr. Asks P ps cs false Shown Each new.cnf fr new.picture) (sym refined.frame) (subst (λ pi. Asks P ps cs false Shown Each new.cnf old.frame pi) (sym refined.picture) asks);
-      bits_drawn = subst (λ n. IsFrame P ps cs n new.frame) (sym refined.bits) (subst (λ fr. IsFrame P ps cs old.bits fr) (sym refined.frame) open'.bits_drawn);
-      bits_pictured = subst (λ n. IsPicture P sizes n new.picture) (sym refined.bits) (subst (λ pi. IsPicture P sizes old.bits pi) (sym refined.picture) open'.bits_pictured);
+      slots_are = ap (λ (fr : Frame). fr.slots.items) refined.frame ∙ h.slots_are;
+      drawn = subst (λ fr. IsFrame P ps cs new.cnf.vars fr) (sym refined.frame) (frame_kept P ps cs old.cnf.vars new.cnf.vars old.frame grows h.drawn);
+      pictured = subst (λ pi. IsPicture P sizes new.cnf.vars pi) (sym refined.picture) (picture_kept P sizes old.cnf.vars new.cnf.vars old.picture grows h.pictured);
+      asks = subst (λ fr. Asks P ps cs exact New New new.cnf fr new.picture) (sym refined.frame) (subst (λ pi. Asks P ps cs exact New New new.cnf old.frame pi) (sym refined.picture) asks);
     }
 
--- at first every world that refutes is shown
-pub open_at_first : (P : Protocol) (asked : Option Block) (used : List Model.Formula) (f : Model.Formula) (sizes : List ℕ) (q : Wide) → IsQuestion P asked false sizes (Refutes P asked (Some f)) (Refutes P asked (Some f)) q → IsOpenQuestion P asked used f sizes q
-open_at_first P asked used f sizes q h = record {
-  slots_are = h.slots_are;
-  drawn = h.drawn;
-  pictured = h.pictured;
-  asks = asks_as P (parameters_asked asked) (choices_asked asked) false (Refutes P asked (Some f)) (Refutes P asked (Some f)) (Refutes P asked (Some f)) (λ w. Refutes P asked (Some f) w × All (Satisfies w.structure) used) q.cnf q.frame q.picture (λ w is r. r) (λ w is both. both.0) h.asks;
-  bits_drawn = h.bits_drawn;
-  bits_pictured = h.bits_pictured;
-}
-
--- a true list of formulas and one of the premises: the one is true, and so are the others
-pub picked_one : (s : Structure) (fs : List Source.Formula) (i : ℕ) (d : Source.Formula) (used : List Model.Formula) → i < length fs → All (Satisfies s) (used ++ picked (map formula_of fs) (i ∷ [])) → All (Satisfies s) used × HasTruth (formula_of (get_or fs i d)) true s
-picked_one s fs i d used below all =
-    let g = formula_of (get_or fs i d) in
-    let many = length-map fs formula_of in
-    let in' : i < length (map formula_of fs) = omega arith in
-    let is : slice_get (map formula_of fs) i ≡ Some g = slice_get-get_or (map formula_of fs) i (formula_of d) in' ∙ ap Some (get_or-map formula_of fs i d (formula_of d) below) in
-    let here : All (Satisfies s) (used ++ g ∷ []) = subst (λ o. All (Satisfies s) (used ++ cons_option o [])) is all in
-    let parts = All-pop (Satisfies s) (used ++ g ∷ []) used (Some g) refl here in
+last_of : (s : Structure) (used : List Model.Formula) (g : Model.Formula) → All (Satisfies s) (used ++ g ∷ []) → All (Satisfies s) used × HasTruth g true s
+last_of s used g all =
+    let parts = All-pop (Satisfies s) (used ++ g ∷ []) used (Some g) refl all in
     let at : Satisfies s g = parts.1 in
     (parts.0, search (rules, at))
+
+with_last : (s : Structure) (used : List Model.Formula) (g : Model.Formula) → All (Satisfies s) used → HasTruth g true s → All (Satisfies s) (used ++ g ∷ [])
+with_last s used g all at = All-push (Satisfies s) used g all (search (rules, at))
+
+pub refined_last : (P : Protocol) (asked : Option Block) (exact : Bool) (sizes : List ℕ) (used : List Model.Formula) (broken : Option Model.Formula) (g : Model.Formula) (old new : Wide) → IsRefined P g old new → IsQuestion P asked exact sizes used broken old → IsQuestion P asked exact sizes (used ++ g ∷ []) broken new
+refined_last P asked exact sizes used broken g old new refined h =
+    refined_of P asked exact sizes used (used ++ g ∷ []) broken g old new (λ s all. last_of s used g all) (λ s all at. with_last s used g all at) refined h
+
+-- the truth of a premise in what was decoded is that in what is shown
+pub truth_shown : (P : Protocol) (frame : Frame) (picture : Picture) (model : List Bool) (d : Decoded) (g : Model.Formula) (value : Bool) (w : World) → AreDecoded P frame picture model d → HasTruth g value (structure_of P d.structure) → ShowsWorld P frame picture model w → HasTruth g value w.structure
+truth_shown P frame picture model d g value w are is shows = subst (HasTruth g value) (are.structure w shows) is
+
+true_not_false : (b : Bool) → b ≡ true → b ≡ false → ⊥
+true_not_false b t f = let k : ⊥ = cc in k
+
+-- no assignment that agrees in front with one that shows a structure in which the premise is false is left
+pub excluded_of : (P : Protocol) (asked : Option Block) (g : Model.Formula) (old new : Wide) (model bits : List Bool) (w : World) → IsDecided P asked old → IsRefined P g old new → ShowsWorld P old.frame old.picture model w → HasTruth g false w.structure → AreMetBy new.cnf bits → AgreeInFront old bits model → ⊥
+excluded_of P asked g old new model bits w decided refined shows is met agree =
+    let again = world_kept P (parameters_asked asked) (choices_asked asked) old.bits old.frame old.picture model bits w decided.drawn decided.pictured agree shows in
+    true_not_false (value_of w.structure empty_environment g) (refined.restricts.holds bits met w.structure again.structure) is
+
+-- the premise of a number
+pub picked_is : (fs : List Source.Formula) (i : ℕ) (d : Source.Formula) → i < length fs → picked (map formula_of fs) (i ∷ []) ≡ formula_of (get_or fs i d) ∷ []
+picked_is fs i d below =
+    let many = length-map fs formula_of in
+    let in' : i < length (map formula_of fs) = omega arith in
+    let is : slice_get (map formula_of fs) i ≡ Some (formula_of (get_or fs i d)) = slice_get-get_or (map formula_of fs) i (formula_of d) in' ∙ ap Some (get_or-map formula_of fs i d (formula_of d) below) in
+    ap (λ o. cons_option o []) is
 
 -- one number more
 pub picked_more : (fs : List Model.Formula) (used : List ℕ) (i : ℕ) → picked fs (used ++ i ∷ []) ≡ picked fs used ++ picked fs (i ∷ [])
@@ -223,14 +279,18 @@ pub none_solution : (f : Formula) (answer : Option (Vec Bool Global)) → ((mode
 none_solution f None other h = h
 none_solution f (Some model) other h = absurd (other model refl)
 
--- the same of a question with equal parts
-pub refined_as : (P : Protocol) (g : Model.Formula) (old other new : Wide) (solved : Cnf) → IsRefined P g other new → other.cnf ≡ solved → ◌≡◌ {A = Formula} solved old.cnf → other.bits ≡ old.bits → other.frame ≡ old.frame → other.picture ≡ old.picture → IsRefined P g old new
-refined_as P g old other new solved h cnf same bits frame picture = record {
-  bits = h.bits ∙ bits;
-  frame = h.frame ∙ frame;
-  picture = h.picture ∙ picture;
-  restricts = subst (λ (c : Formula). RestrictsTo P old.frame old.picture (HasTruth g true) c new.cnf) same (subst (λ (c : Cnf). RestrictsTo P old.frame old.picture (HasTruth g true) c new.cnf) cnf (subst (λ fr. RestrictsTo P fr old.picture (HasTruth g true) other.cnf new.cnf) frame (subst (λ pi. RestrictsTo P other.frame pi (HasTruth g true) other.cnf new.cnf) picture h.restricts)));
-}
+-- the question with equal parts
+pub question_as : (P : Protocol) (asked : Option Block) (exact : Bool) (sizes : List ℕ) (before : List Model.Formula) (broken : Option Model.Formula) (old new : Wide) → ◌≡◌ {A = Formula} new.cnf old.cnf → new.frame ≡ old.frame → new.picture ≡ old.picture → IsQuestion P asked exact sizes before broken old → IsQuestion P asked exact sizes before broken new
+question_as P asked exact sizes before broken old new cnf frame picture h =
+    let ps = parameters_asked asked in
+    let cs = choices_asked asked in
+    let Is : World → Type 0 = RefutesFrom P asked before broken in
+    record {
+      slots_are = ap (λ (fr : Frame). fr.slots.items) frame ∙ h.slots_are;
+      drawn = subst (λ (f : Formula). IsFrame P ps cs f.vars new.frame) (sym cnf) (subst (IsFrame P ps cs old.cnf.vars) (sym frame) h.drawn);
+      pictured = subst (λ (f : Formula). IsPicture P sizes f.vars new.picture) (sym cnf) (subst (IsPicture P sizes old.cnf.vars) (sym picture) h.pictured);
+      asks = subst (λ (f : Formula). Asks P ps cs exact Is Is f new.frame new.picture) (sym cnf) (subst (λ fr. Asks P ps cs exact Is Is old.cnf fr new.picture) (sym frame) (subst (λ pi. Asks P ps cs exact Is Is old.cnf old.frame pi) (sym picture) h.asks));
+    }
 
 -- the question with one number more
 pub question_goes_on : (P : Protocol) (asked : Option Block) (fs : List Model.Formula) (used more : List ℕ) (number : ℕ) (f : Model.Formula) (sizes : List ℕ) (q : Wide) → more ≡ used ++ number ∷ [] → All (λ k. k < length fs) used → (number < length fs) × IsOpenQuestion P asked (picked fs used ++ picked fs (number ∷ [])) f sizes q → IsOpenQuestion P asked (picked fs more) f sizes q × All (λ k. k < length fs) more

@@ -1,5 +1,5 @@
 -- Clauses that only such structures are shown.
-use Rattle.std.proofs.Common.{◌≡◌, ◌+◌, ◌<◌, ◌≤◌, ◌||◌, ℕ, Bool, true, false, List, [], ◌∷◌, length, get_or, take, replicate, refl, ap, sym, ◌∙◌, subst, arith, Some, slice_get, ◌⊎◌, inl, inr, rules}
+use Rattle.std.proofs.Common.{◌≡◌, ◌+◌, ◌<◌, ◌≤◌, ◌||◌, ℕ, Bool, true, false, List, [], ◌∷◌, length, get_or, take, replicate, refl, ap, sym, ◌∙◌, subst, arith, Option, Some, None, slice_get, ◌⊎◌, inl, inr, rules}
 use Rattle.std.specs.List.{All}
 use Rattle.std.proofs.lemmas.Bool.{cases_lt}
 use Rattle.std.proofs.lemmas.List.{length-replicate, get_or-replicate, get_or_past, take_more, length-take-le, get_or-take}
@@ -20,7 +20,7 @@ use Rattle.dai_picture.specs.Pictures.{Shows}
 use Rattle.dai_picture.proofs.SameWorld.{shows_kept}
 use Rattle.dai_ground.specs.Findings.{HasValue}
 use Rattle.dai_ground.specs.Grounding.{IsFormulaIn, IsValue, Sees, environment}
-use Rattle.dai_ground.specs.Asking.{RestrictsTo, HasTruth, IsScene}
+use Rattle.dai_ground.specs.Asking.{RestrictsTo, HasTruth, IsScene, IsBroken, IsClosed}
 use Rattle.dai_ground.proofs.FormulaBits.{rows_kept}
 
 zeros_at : (n v : ℕ) → (v < n) ⊎ (n ≤ v) → get_or (replicate {A = ℕ} n 0) v 0 ≡ 0
@@ -152,9 +152,19 @@ all_take Q xs i d below all =
     let shorter : length (take i xs) ≡ i = length-take-le i xs (omega arith) in
     ((λ k e l. subst Q (get_or-take (i + 1) xs k e (omega arith) ∙ sym (get_or-take i xs k e (omega arith))) (all k e (omega arith))), subst Q (get_or-take (i + 1) xs i d (omega arith)) (all i d (omega arith)))
 
-pub axioms_more : (P : Protocol) (frame : Frame) (picture : Picture) (i : ℕ) (d : Model.Formula) (a b c : Formula) → i < length P.axioms → IsScene P frame picture a.vars → RestrictsTo P frame picture (λ s. All (Satisfies s) (take i P.axioms)) a b → RestrictsTo P frame picture (HasTruth (get_or P.axioms i d) true) b c → RestrictsTo P frame picture (λ s. All (Satisfies s) (take (i + 1) P.axioms)) a c
-axioms_more P frame picture i d a b c below scene f g =
-    restricts_as P frame picture (λ s. All (Satisfies s) (take i P.axioms) × HasTruth (get_or P.axioms i d) true s) (λ s. All (Satisfies s) (take (i + 1) P.axioms)) a c
-    (λ s both. subst (All (Satisfies s)) (sym (take_more P.axioms i d below)) (All-push (Satisfies s) (take i P.axioms) (get_or P.axioms i d) both.0 (search (rules, both.1))))
-    (λ s all. let both = all_take (Satisfies s) P.axioms i d below all in (both.0, search (rules, both.1)))
-    (restricts_both P frame picture (λ s. All (Satisfies s) (take i P.axioms)) (HasTruth (get_or P.axioms i d) true) a b c scene f g)
+pub formulas_more : (P : Protocol) (frame : Frame) (picture : Picture) (fs : List Model.Formula) (i : ℕ) (d : Model.Formula) (a b c : Formula) → i < length fs → IsScene P frame picture a.vars → RestrictsTo P frame picture (λ s. All (Satisfies s) (take i fs)) a b → RestrictsTo P frame picture (HasTruth (get_or fs i d) true) b c → RestrictsTo P frame picture (λ s. All (Satisfies s) (take (i + 1) fs)) a c
+formulas_more P frame picture fs i d a b c below scene f g =
+    restricts_as P frame picture (λ s. All (Satisfies s) (take i fs) × HasTruth (get_or fs i d) true s) (λ s. All (Satisfies s) (take (i + 1) fs)) a c
+    (λ s both. subst (All (Satisfies s)) (sym (take_more fs i d below)) (All-push (Satisfies s) (take i fs) (get_or fs i d) both.0 (search (rules, both.1))))
+    (λ s all. let both = all_take (Satisfies s) fs i d below all in (both.0, search (rules, both.1)))
+    (restricts_both P frame picture (λ s. All (Satisfies s) (take i fs)) (HasTruth (get_or fs i d) true) a b c scene f g)
+
+pub denied_none : (P : Protocol) (frame : Frame) (picture : Picture) (broken : Option Model.Formula) (a : Formula) → broken ≡ None → RestrictsTo P frame picture (IsBroken broken) a a
+denied_none P frame picture None a is = restricts_none P frame picture (IsBroken None) a (λ s. tt)
+denied_none P frame picture (Some f) a is = absurd (let k : ⊥ = cc in k)
+
+pub denied_some : (P : Protocol) (frame : Frame) (picture : Picture) (broken : Option Model.Formula) (f : Model.Formula) (a b : Formula) → broken ≡ Some f → RestrictsTo P frame picture (HasTruth f false) a b → RestrictsTo P frame picture (IsBroken broken) a b
+denied_some P frame picture broken f a b is r = subst (λ o. RestrictsTo P frame picture (IsBroken o) a b) (sym is) r
+
+pub closed_some : (P : Protocol) (broken : Option Model.Formula) (f : Model.Formula) → broken ≡ Some f → IsClosed P broken → IsWellSorted P closed_scope f
+closed_some P broken f is h = subst (IsClosed P) is h

@@ -1,29 +1,19 @@
 -- Answers to questions with premises, over all sizes up to given ones.
-use Rattle.std.specs.Prelude.{◌≡◌, ℕ, ◌<◌, false, List, length, Option, Some, slice_get}
+use Rattle.std.specs.Prelude.{ℕ, ◌<◌, false, List, length, Option, Some, slice_get}
 use Rattle.std.specs.List.{All, filter_map}
 use Rattle.dai_model.specs.Formula.{Formula}
 use Rattle.dai_model.specs.Protocol.{Protocol, Block}
 use Rattle.dai_model.specs.Value.{Satisfies}
-use Rattle.dai_logic.specs.Tables.{structure_of, Fits}
 use Rattle.dai_picture.specs.Worlds.{World, IsWorld}
 use Rattle.dai_ground.specs.declared.found.Found.{Found}
 use Rattle.dai_ground.specs.declared.found.Answer.{Answer}
 use Rattle.dai_ground.specs.declared.found.Answer.TheVariants.{Holds, Broken}
-use Rattle.dai_ground.specs.Asking.{Refutes, parameters_asked, choices_asked, outcome_of, IsBroken}
-
--- the world whose structure, arguments and choices were found
-abbrev pub world_of : Protocol → Found → World
-world_of P x = record { structure = structure_of P x.before; arguments = x.args.items; choices = x.choices.items }
+use Rattle.dai_ground.specs.Asking.{Refutes, parameters_asked, choices_asked}
+use Rattle.dai_ground.specs.Questions.{IsAnswer}
 
 -- a world within the sizes whose structure meets the premises and which refutes
-pub record IsFound (P : Protocol) (block : Option Block) (premises : List Formula) (f : Formula) (sizes : List ℕ) (x : Found) : Type 0 where
-  pub before_fits : Fits P x.before
-  pub after_fits : Fits P x.after
-  pub world : IsWorld P (parameters_asked block) (choices_asked block) false sizes (world_of P x)
-  pub premises_met : All (Satisfies (structure_of P x.before)) premises
-  pub refutes : Refutes P block (Some f) (world_of P x)
-  pub leaves : outcome_of P block (world_of P x) ≡ Some (structure_of P x.after)
-  pub is_broken : IsBroken (Some f) (structure_of P x.after)
+abbrev pub IsFound : Protocol → Option Block → List Formula → Formula → List ℕ → Found → Type 0
+IsFound P block premises f sizes x = IsAnswer P block false sizes premises (Some f) x
 
 -- no world within the sizes whose structure meets the premises refutes
 abbrev pub NoneRefutes : Protocol → Option Block → List Formula → Formula → List ℕ → Type 0

@@ -1,12 +1,17 @@
 -- Questions: what is asked of a structure with arguments and choices, and clauses that ask it.
 use Rattle.std.specs.Prelude.{◌≡◌, ℕ, ◌<◌, ◌≤◌, Bool, false, List, [], Option, None, Some, IsSome}
+use Rattle.std.specs.Option.{option_map}
+use Rattle.std.specs.List.{All}
 use Rattle.dai_model.specs.Formula.{Formula}
 use Rattle.dai_model.specs.Protocol.{Protocol, Block}
 use Rattle.dai_model.specs.Structure.{Structure}
-use Rattle.dai_model.specs.Value.{value_of, empty_environment, SatisfiesAxioms}
+use Rattle.dai_model.specs.Value.{value_of, empty_environment, Satisfies, SatisfiesAxioms}
 use Rattle.dai_model.specs.Execution.{executes}
+use Rattle.dai_model.specs.WellSorted.{IsWellSorted, closed_scope}
 use Rattle.dai_logic.specs.declared.structure.BlockId.{BlockId}
+use Rattle.dai_logic.specs.declared.protocol.Formula as Source
 use Rattle.dai_logic.specs.Protocols.{block_named}
+use Rattle.dai_logic.specs.Trees.{formula_of}
 use Rattle.dai_trail.specs.Formula as Clauses
 use Rattle.dai_trail.specs.Formula.{AreMetBy, value_at}
 use Rattle.dai_picture.specs.declared.picture.Frame.{Frame}
@@ -30,6 +35,15 @@ pub record Refutes (P : Protocol) (block : Option Block) (broken : Option Formul
   pub after : Structure
   pub leaves : outcome_of P block w ≡ Some after
   pub is_broken : IsBroken broken after
+
+-- and its structure meets these formulas
+abbrev pub RefutesFrom : Protocol → Option Block → List Formula → Option Formula → World → Type 0
+RefutesFrom P block before broken w = Refutes P block broken w × All (Satisfies w.structure) before
+
+-- the formula, if there is one, is well-sorted and closed
+abbrev pub IsClosed : Protocol → Option Formula → Type 0
+IsClosed P None = Unit {0}
+IsClosed P (Some f) = IsWellSorted P closed_scope f
 
 -- each assignment that meets the clauses shows a world of the one kind, and each world of the other kind is shown
 pub record Asks (P : Protocol) (parameters choices : List ℕ) (exact : Bool) (Shown Each : World → Type 0) (clauses : Clauses.Formula) (frame : Frame) (picture : Picture) : Type 0 where
@@ -66,11 +80,12 @@ pub record IsScene (P : Protocol) (frame : Frame) (picture : Picture) (count : �
   pub drawn : IsFrame P parameters choices count frame
   pub pictured : IsPicture P frame.slots.items count picture
 
--- the block leads from the world's structure, with its arguments and choices, to one in which the formula is false
-pub record Leads (P : Protocol) (block : Block) (f : Formula) (w : World) : Type 0 where
+-- the block leads from the world's structure, with its arguments and choices, to one in which the formula, if there is
+-- one, is false
+pub record Leads (P : Protocol) (block : Block) (broken : Option Formula) (w : World) : Type 0 where
   pub after : Structure
   pub leaves : executes P block w.structure w.arguments w.choices ≡ Some after
-  pub is_false : value_of after empty_environment f ≡ false
+  pub is_broken : IsBroken broken after
 
 -- every world, and some world, that is shown in an assignment is such
 abbrev pub EachWorld : Protocol → List ℕ → List ℕ → Bool → Frame → Picture → (World → Type 0) → List Bool → Type 0
@@ -96,3 +111,7 @@ parameters_asked (Some block) = block.parameters
 abbrev pub choices_asked : Option Block → List ℕ
 choices_asked None = []
 choices_asked (Some block) = block.choices
+
+-- the formula of the model, if there is one
+abbrev pub formula_asked : Option Source.Formula → Option Formula
+formula_asked broken = option_map formula_of broken

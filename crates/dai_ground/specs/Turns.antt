@@ -1,5 +1,5 @@
 -- One turn of a question: a model, what it shows, and a premise that this doesn't meet.
-use Rattle.std.specs.Prelude.{◌≡◌, ℕ, ◌<◌, Bool, true, false, List, [], ◌∷◌, ◌++◌, length, Option, None, Some, IsTrue, Vec}
+use Rattle.std.specs.Prelude.{◌≡◌, ℕ, ◌<◌, Bool, false, List, [], ◌∷◌, ◌++◌, length, Option, None, Some, IsTrue, Vec}
 use Rattle.std.specs.declared.alloc.Global.{Global}
 use Rattle.std.specs.List.{All}
 use Rattle.dai_model.specs.Formula.{Formula}
@@ -12,7 +12,7 @@ use Rattle.dai_logic.specs.declared.structure.BlockId.{BlockId}
 use Rattle.dai_logic.specs.Tables.{structure_of, Fits}
 use Rattle.dai_picture.specs.declared.decode.Decoded.{Decoded}
 use Rattle.dai_picture.specs.Worlds.{World}
-use Rattle.dai_ground.specs.Asking.{Refutes, RestrictsTo, HasTruth, IsScene, block_asked, parameters_asked, choices_asked, outcome_of}
+use Rattle.dai_ground.specs.Asking.{block_asked, parameters_asked, choices_asked, outcome_of}
 use Rattle.dai_ground.specs.declared.found.Found.{Found}
 use Rattle.dai_ground.specs.declared.wide.Wide.{Wide}
 use Rattle.dai_ground.specs.declared.asking.Turn.{Turn}
@@ -48,20 +48,9 @@ pub record IsFoundFrom (P : Protocol) (asked : Option Block) (d : Decoded) (x : 
   pub after_fits : Fits P x.after
   pub leaves : outcome_of P asked (world_decoded P d) ≡ Some (structure_of P x.after)
 
-abbrev pub IsSceneOf : Protocol → Wide → Type 0
-IsSceneOf P q = IsScene P q.frame q.picture q.cnf.vars
-
--- the same frame and picture, and clauses that what is shown gives the closed formula the value true
-pub record IsRefined (P : Protocol) (f : Formula) (old new : Wide) : Type 0 where
-  pub bits : new.bits ≡ old.bits
-  pub frame : new.frame ≡ old.frame
-  pub picture : new.picture ≡ old.picture
-  pub restricts : RestrictsTo P old.frame old.picture (HasTruth f true) old.cnf new.cnf
-
--- Worlds that refute, and of which those that meet the premises which were used are all shown: what is left of the
--- question.
+-- what is left of the question: worlds that refute and that meet the premises which were used
 abbrev pub IsOpenQuestion : Protocol → Option Block → List Formula → Formula → List ℕ → Wide → Type 0
-IsOpenQuestion P asked used f sizes q = IsQuestion P asked false sizes (Refutes P asked (Some f)) (λ w. Refutes P asked (Some f) w × All (Satisfies w.structure) used) q
+IsOpenQuestion P asked used f sizes q = IsQuestion P asked false sizes used (Some f) q
 
 -- nothing is found with what was used; or something that meets all premises; or one more is used
 abbrev pub IsTurn : Protocol → Option Block → List Formula → List Formula → Formula → List ℕ → Turn → Type 0

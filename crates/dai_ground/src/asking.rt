@@ -4,23 +4,18 @@ ghost use Rattle.std.specs.List.{All};
 ghost use Rattle.dai_model.specs.Formula as Model;
 ghost use Rattle.dai_model.specs.WellSorted.{IsWellSorted, closed_scope};
 ghost use Rattle.dai_logic.specs.Protocols.{protocol_of};
-ghost use Rattle.dai_logic.specs.Tables.{Fits};
 ghost use Rattle.dai_logic.specs.Trees.{formula_of};
 ghost use Rattle.dai_ground.specs.Asking.{IsKnown, block_asked};
 ghost use Rattle.dai_ground.specs.Answers.{IsAnswerTo};
-ghost use Rattle.dai_ground.specs.Turns.{IsTurn, IsOpenQuestion, IsCaller, IsFoundFrom, IsSceneOf, IsRefined};
+ghost use Rattle.dai_ground.specs.Turns.{IsTurn, IsOpenQuestion};
 
-use crate::candidates::Scene;
-use crate::finding::{first_unmet, left};
+use crate::finding::first_unmet;
 use crate::found::{Answer, Found};
 use crate::question::ground_wide;
-use crate::restricting::restrict;
 use crate::solving::{Solved, solve};
 use crate::wide::Wide;
 use dai_base::Spent;
-use dai_circuit::Circuit;
 use dai_logic::{BlockId, Formula, Protocol};
-use dai_picture::decode::{Decoded, decode};
 use std::alloc::Global;
 
 /// Nothing is found with the premises so far; or something that meets all premises; or the question with the premise
@@ -30,60 +25,6 @@ enum Turn {
     Done,
     Shown(Found),
     Again(usize, Wide),
-}
-
-/// What the decoded structure with its arguments and choices answers.
-fn found(
-    alloc: Global,
-    protocol: &Protocol,
-    block: Option<BlockId>,
-    decoded: Decoded,
-) -> Result<Found, Spent>
-    requires fits { Fits (protocol_of protocol.now) decoded.structure }
-    requires known { IsKnown (protocol_of protocol.now) block }
-    requires caller { IsCaller (protocol_of protocol.now) block decoded }
-    ensures { IfOk result (IsFoundFrom (protocol_of protocol.now) (block_asked (protocol_of protocol.now) block) decoded) }
-{
-    let after = left(alloc, protocol, block, &decoded)?;
-    let Decoded {
-        structure,
-        args,
-        choices,
-    } = decoded;
-    Ok(Found {
-        before: structure,
-        args,
-        choices,
-        after,
-    })
-}
-
-/// The question with one premise more.
-fn refined(alloc: Global, protocol: &Protocol, premise: &Formula, wide: Wide) -> Result<Wide, Spent>
-    requires question { IsSceneOf (protocol_of protocol.now) wide }
-    requires closed { IsWellSorted (protocol_of protocol.now) closed_scope (formula_of premise.now) }
-    ensures { IfOk result (IsRefined (protocol_of protocol.now) (formula_of premise.now) wide) }
-{
-    let Wide {
-        cnf,
-        bits,
-        frame,
-        picture,
-    } = wide;
-    let mut circuit = Circuit::over(alloc, cnf);
-    let scene = Scene {
-        alloc,
-        protocol,
-        frame: &frame,
-        picture: &picture,
-    };
-    restrict(&mut circuit, &scene, premise, true)?;
-    Ok(Wide {
-        cnf: circuit.into_formula(),
-        bits,
-        frame,
-        picture,
-    })
 }
 
 /// One turn: a model of the clauses is decoded, and where the structure doesn't meet a premise, the clauses get it.
@@ -109,18 +50,18 @@ fn take_turn(
     let Some(model) = model else {
         return Ok(Turn::Done);
     };
-    let decoded = decode(alloc, protocol, &frame, &picture, model.as_slice())?;
-    match first_unmet(alloc, protocol, premises, &decoded.structure)? {
-        None => Ok(Turn::Shown(found(alloc, protocol, block, decoded)?)),
+    let mut wide = Wide {
+        cnf,
+        bits,
+        frame,
+        picture,
+    };
+    let found = wide.decode(alloc, protocol, block, model.as_slice())?;
+    match first_unmet(alloc, protocol, premises, &found.before)? {
+        None => Ok(Turn::Shown(found)),
         Some(number) => {
-            let again = Wide {
-                cnf,
-                bits,
-                frame,
-                picture,
-            };
-            let next = refined(alloc, protocol, &premises[number], again)?;
-            Ok(Turn::Again(number, next))
+            wide.add(alloc, protocol, &premises[number])?;
+            Ok(Turn::Again(number, wide))
         }
     }
 }
@@ -149,7 +90,7 @@ pub fn ask(
     requires inhabited { All (λ n. 0 < n) sizes.now }
     ensures { IfOk result (IsAnswerTo (protocol_of protocol.now) (block_asked (protocol_of protocol.now) block) (map formula_of premises.now) (formula_of broken.now) sizes.now) }
 {
-    let mut wide = ground_wide(alloc, protocol, block, broken, sizes)?;
+    let mut wide = ground_wide(alloc, protocol, block, Some(broken), sizes)?;
     let mut used = Vec::new(alloc);
     for _turn in 0..u64::MAX {
         match take_turn(alloc, protocol, block, premises, wide)? {

@@ -1,13 +1,15 @@
 //! From a structure that is shown to what answers a question.
 ghost use Rattle.std.specs.Prelude.{◌≡◌, [], length, map, Some, IfOk};
 ghost use Rattle.std.specs.List.{All};
+ghost use Rattle.dai_model.specs.Value.{value_of, empty_environment};
 ghost use Rattle.dai_model.specs.WellSorted.{IsWellSorted, closed_scope};
 ghost use Rattle.dai_logic.specs.Protocols.{protocol_of};
 ghost use Rattle.dai_logic.specs.Tables.{structure_of, Fits};
 ghost use Rattle.dai_logic.specs.Trees.{formula_of};
 ghost use Rattle.dai_ground.specs.Asking.{IsKnown, block_asked, outcome_of};
-ghost use Rattle.dai_ground.specs.Turns.{IsFirstUnmet, IsCaller, world_decoded};
+ghost use Rattle.dai_ground.specs.Turns.{IsFirstUnmet, IsCaller, IsFoundFrom, world_decoded};
 
+use crate::found::Found;
 use dai_base::Spent;
 use dai_logic::{BlockId, Formula, Protocol, Structure, copy, env, eval, exec};
 use dai_picture::decode::Decoded;
@@ -33,8 +35,24 @@ pub fn first_unmet(
     Ok(None)
 }
 
+/// Whether the closed formula is true in the structure.
+pub(crate) fn is_true(
+    alloc: Global,
+    protocol: &Protocol,
+    formula: &Formula,
+    s: &Structure,
+) -> Result<bool, Spent>
+    requires fits { Fits (protocol_of protocol.now) s.now }
+    requires closed { IsWellSorted (protocol_of protocol.now) closed_scope (formula_of formula.now) }
+    ensures { IfOk result (λ value. value_of (structure_of (protocol_of protocol.now) s.now) empty_environment (formula_of formula.now) ≡ value) }
+{
+    let mut env = env(alloc, &[], &[])?;
+    let value = eval(protocol, formula, s, &mut env);
+    Ok(value)
+}
+
 /// What the block leaves, which leaves a structure; without a block, the structure itself.
-pub(crate) fn left(
+fn left(
     alloc: Global,
     protocol: &Protocol,
     block: Option<BlockId>,
@@ -61,4 +79,30 @@ pub(crate) fn left(
         Some(after) => Ok(after),
         None => unreachable!(),
     }
+}
+
+/// What the decoded structure with its arguments and choices answers.
+pub fn found(
+    alloc: Global,
+    protocol: &Protocol,
+    block: Option<BlockId>,
+    decoded: Decoded,
+) -> Result<Found, Spent>
+    requires fits { Fits (protocol_of protocol.now) decoded.structure }
+    requires known { IsKnown (protocol_of protocol.now) block }
+    requires caller { IsCaller (protocol_of protocol.now) block decoded }
+    ensures { IfOk result (IsFoundFrom (protocol_of protocol.now) (block_asked (protocol_of protocol.now) block) decoded) }
+{
+    let after = left(alloc, protocol, block, &decoded)?;
+    let Decoded {
+        structure,
+        args,
+        choices,
+    } = decoded;
+    Ok(Found {
+        before: structure,
+        args,
+        choices,
+        after,
+    })
 }

@@ -123,7 +123,7 @@ fn copy_rows(alloc: Global, rows: &[Vec<Bit>]) -> Result<Vec<Vec<Bit>>, Spent>
 }
 
 /// A copy of the picture.
-pub(crate) fn copy(alloc: Global, picture: &Picture) -> Result<Picture, Spent>
+pub fn copy(alloc: Global, picture: &Picture) -> Result<Picture, Spent>
     ensures { IfOk result (IsCopy picture.now) }
 {
     Ok(Picture {

@@ -15,11 +15,7 @@ use dai_circuit::{Bit, Circuit};
 use dai_logic::Formula;
 
 /// The bit of a formula outside of all quantifiers and targets.
-pub(crate) fn ground_alone(
-    circuit: &mut Circuit,
-    scene: &Scene,
-    formula: &Formula,
-) -> Result<Bit, Spent>
+pub fn ground_alone(circuit: &mut Circuit, scene: &Scene, formula: &Formula) -> Result<Bit, Spent>
     requires { IsFormulaIn (protocol_of scene.now.protocol.now) scene.now.frame.now scene.now.picture.now circuit.old.vars no_binding (formula_of formula.now) }
     ensures { Grounds (protocol_of scene.now.protocol.now) scene.now.frame.now scene.now.picture.now no_binding (formula_of formula.now) circuit.old circuit.new result }
 {

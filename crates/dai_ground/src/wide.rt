@@ -1,4 +1,4 @@
-//! A question over all sizes up to given ones, as clauses.
+//! A question over all sizes up to given ones, or at exactly given ones, as clauses.
 ghost use Rattle.dai_circuit.specs.Circuits.{IsOver};
 
 use dai_picture::{Frame, Picture};
@@ -10,7 +10,10 @@ pub struct Wide {
     pub cnf: Cnf,
     /// How many variables at the front decide what is shown.
     pub bits: usize,
-    pub frame: Frame,
-    pub picture: Picture,
+    pub(crate) frame: Frame,
+    pub(crate) picture: Picture,
     pub ghost over: { IsOver cnf },
 }
+
+/// A question at exactly given sizes. Its variables at the front are those of the structure before and of the locals.
+pub type Grounded = Wide;

@@ -1,18 +1,18 @@
-use Rattle.std.proofs.Common.{[], map, subst, length, ◌<◌}
+use Rattle.std.proofs.Common.{[], map, sym, subst, length, ◌<◌}
 use Rattle.std.proofs.lemmas.List.Elements.{All-nil, All-same}
 use Rattle.dai_logic.specs.Protocols.{protocol_of}
 use Rattle.dai_logic.specs.Trees.{formula_of}
 use Rattle.dai_ground.specs.Answers.{picked}
 use Rattle.dai_ground.specs.Asking.{block_asked}
-use Rattle.dai_ground.proofs.Answering.{open_at_first, question_goes_on}
-use Rattle.dai_ground.specs.Turns.{IsTurn}
+use Rattle.dai_ground.proofs.Answering.{question_goes_on}
+use Rattle.dai_ground.specs.Turns.{IsTurn, IsOpenQuestion}
 use Rattle.dai_ground.proofs.asking.ask.Goals as goal
 
 pub loop-turn-init : goal.loop-turn-init
 loop-turn-init c =
     let P = protocol_of c.args.protocol.now in
     let premises = map formula_of c.args.premises.now in (
-      open_at_first P (block_asked P c.args.block) (picked premises c.new-used.result.items) (formula_of c.args.broken.now) c.args.sizes.now c.in_ok-wide.wide c.in_ok-wide.ensures,
+      subst (λ used. IsOpenQuestion P (block_asked P c.args.block) (picked premises used) (formula_of c.args.broken.now) c.args.sizes.now c.in_ok-wide.wide) (sym c.new-used.ensures.items) c.in_ok-wide.ensures.question,
       All-same (λ k. k < length premises) c.new-used.result.items [] c.new-used.ensures.items (All-nil (λ k. k < length premises)),
     )
 

@@ -1,16 +1,14 @@
-use Rattle.std.proofs.Common.{◌<◌, true, [], ◌∷◌, ◌++◌, refl, length, map, sym, subst, arith}
+use Rattle.std.proofs.Common.{◌<◌, ◌≡◌, false, Some, [], ◌∷◌, ◌++◌, refl, length, map, sym, ap, ◌∙◌, subst, arith}
 use Rattle.std.proofs.lemmas.List.{length-map}
 use Rattle.dai_model.specs.WellSorted.{IsWellSorted, closed_scope}
-use Rattle.dai_trail.specs.Formula.{IsModelOf}
+use Rattle.dai_trail.specs.Formula.{Formula, IsModelOf}
 use Rattle.dai_logic.specs.Protocols.{protocol_of}
 use Rattle.dai_logic.specs.Tables.{structure_of}
 use Rattle.dai_logic.specs.Trees.{formula_of}
-use Rattle.std.specs.List.{All}
-use Rattle.dai_model.specs.Value.{Satisfies}
-use Rattle.dai_ground.specs.Asking.{block_asked, HasTruth}
+use Rattle.dai_ground.specs.Asking.{IsScene, block_asked}
 use Rattle.dai_ground.specs.Answers.{picked}
-use Rattle.dai_ground.specs.Turns.{IsSolution, IsFirstUnmet}
-use Rattle.dai_ground.proofs.Answering.{none_refutes, decodable_of, caller_of, found_of, refined_of, formula_at, picked_one, none_solution, refined_as, AreDecoded}
+use Rattle.dai_ground.specs.Turns.{IsSolution, IsFirstUnmet, IsOpenQuestion}
+use Rattle.dai_ground.proofs.Answering.{none_refutes, found_of, refined_last, formula_at, picked_is, none_solution, scene_of, question_as}
 use Rattle.dai_ground.proofs.asking.take_turn.Goals as goal
 
 pub returns-in_default : goal.returns-in_default
@@ -19,27 +17,28 @@ returns-in_default c = λ used f sizes open'.
     let asked = block_asked P c.args.block in
     none_refutes P asked used f sizes c.args.wide c.args.wide.over (none_solution c.args.wide.cnf c.in_ok-cnf.field-0.model c.in_default.not-Some c.in_ok-cnf.ensures.model) open'
 
-pub decode-requires : goal.decode-requires
-decode-requires c =
+pub decode-requires-clause-question : goal.decode-requires-clause-question
+decode-requires-clause-question c =
     let P = protocol_of c.args.protocol.now in
     let asked = block_asked P c.args.block in
-    let premises = map formula_of c.args.premises.now in
-    let model = subst (IsModelOf c.args.wide.cnf) (sym c.as_slice.ensures.value) (subst (IsSolution c.args.wide.cnf) c.in-Some.is c.in_ok-cnf.ensures.model) in
-    decodable_of P asked c.requires.question.0 c.requires.question.1 c.requires.question.2 c.args.wide c.as_slice.result.now model c.requires.question.3
+    let q = c.requires.question in
+    (false, q.2, q.0, Some q.1, question_as P asked false q.2 q.0 (Some q.1) c.args.wide _ c.in_ok-cnf.ensures.same refl refl q.3)
 
-pub found-requires-clause-caller : goal.found-requires-clause-caller
-found-requires-clause-caller c =
-    let P = protocol_of c.args.protocol.now in
-    let asked = block_asked P c.args.block in
-    let premises = map formula_of c.args.premises.now in
+pub decode-requires-clause-model : goal.decode-requires-clause-model
+decode-requires-clause-model c =
     let model = subst (IsModelOf c.args.wide.cnf) (sym c.as_slice.ensures.value) (subst (IsSolution c.args.wide.cnf) c.in-Some.is c.in_ok-cnf.ensures.model) in
-    let are : AreDecoded P c.args.wide.frame c.args.wide.picture c.as_slice.result.now c.in_ok-decoded.decoded = record { structure = c.in_ok-decoded.ensures.structure; arguments = c.in_ok-decoded.ensures.arguments; choices = c.in_ok-decoded.ensures.choices } in
-    caller_of P c.args.block c.requires.question.0 c.requires.question.1 c.requires.question.2 c.args.wide c.as_slice.result.now c.in_ok-decoded.decoded model c.requires.question.3 are
+    subst (λ (f : Formula). IsModelOf f c.as_slice.result.now) (sym c.in_ok-cnf.ensures.same) model
 
-pub refined-requires-clause-closed : goal.refined-requires-clause-closed
-refined-requires-clause-closed c =
+pub add-requires-clause-scene : goal.add-requires-clause-scene
+add-requires-clause-scene c =
     let P = protocol_of c.args.protocol.now in
     let asked = block_asked P c.args.block in
+    let q = c.requires.question in
+    subst (λ (f : Formula). IsScene P c.args.wide.frame c.args.wide.picture f.vars) (sym c.in_ok-cnf.ensures.same) (scene_of P asked false q.2 q.0 (Some q.1) c.args.wide q.3)
+
+pub add-requires-clause-closed : goal.add-requires-clause-closed
+add-requires-clause-closed c =
+    let P = protocol_of c.args.protocol.now in
     let premises = map formula_of c.args.premises.now in
     let many = length-map c.args.premises.now formula_of in
     let unmet = subst (IsFirstUnmet _ premises) c.in-Some-2.is c.in_ok-first_unmet.ensures in
@@ -47,28 +46,26 @@ refined-requires-clause-closed c =
     let premise = c.index-premises-number.result in
     subst (λ g. IsWellSorted P closed_scope (formula_of g)) (sym c.index-premises-number.is) (formula_at P c.args.premises.now c.in-Some-2.number premise below c.requires.premises)
 
-pub returns-in_ok-found-in-None : goal.returns-in_ok-found-in-None
-returns-in_ok-found-in-None c = λ used f sizes open'.
+pub returns-in-None : goal.returns-in-None
+returns-in-None c = λ used f sizes open'.
     let P = protocol_of c.args.protocol.now in
     let asked = block_asked P c.args.block in
     let premises = map formula_of c.args.premises.now in
-    let model = subst (IsModelOf c.args.wide.cnf) (sym c.as_slice.ensures.value) (subst (IsSolution c.args.wide.cnf) c.in-Some.is c.in_ok-cnf.ensures.model) in
-    let are : AreDecoded P c.args.wide.frame c.args.wide.picture c.as_slice.result.now c.in_ok-decoded.decoded = record { structure = c.in_ok-decoded.ensures.structure; arguments = c.in_ok-decoded.ensures.arguments; choices = c.in_ok-decoded.ensures.choices } in
-    let met = subst (IsFirstUnmet (structure_of P c.in_ok-decoded.decoded.structure) premises) c.in-None.is c.in_ok-first_unmet.ensures in
-    found_of P c.args.block premises used f sizes c.args.wide c.as_slice.result.now c.in_ok-decoded.decoded c.in_ok-found-in-None.field-0 model open' are c.in_ok-decoded.ensures.fits met c.in_ok-found-in-None.ensures
+    let met = subst (IsFirstUnmet (structure_of P c.in_ok-found.found.before) premises) c.in-None.is c.in_ok-first_unmet.ensures in
+    found_of P asked premises used f sizes c.in_ok-found.found (c.in_ok-found.ensures.answers false sizes used (Some f) (question_as P asked false sizes used (Some f) c.args.wide _ c.in_ok-cnf.ensures.same refl refl open')) met
 
-pub returns-in_ok-next-in-Some-2 : goal.returns-in_ok-next-in-Some-2
-returns-in_ok-next-in-Some-2 c = λ used f sizes open'.
+pub returns : goal.returns
+returns c = λ used f sizes open'.
     let P = protocol_of c.args.protocol.now in
     let asked = block_asked P c.args.block in
-    let premises = map formula_of c.args.premises.now in
-    let many = length-map c.args.premises.now formula_of in
-    let unmet : c.in-Some-2.number < length premises = subst (IsFirstUnmet _ premises) c.in-Some-2.is c.in_ok-first_unmet.ensures in
-    let below : c.in-Some-2.number < length c.args.premises.now = omega arith in
+    let fs = c.args.premises.now in
+    let premises = map formula_of fs in
+    let number = c.in-Some-2.number in
+    let many = length-map fs formula_of in
+    let unmet : number < length premises = subst (IsFirstUnmet _ premises) c.in-Some-2.is c.in_ok-first_unmet.ensures in
+    let below : number < length fs = omega arith in
     let premise = c.index-premises-number.result in
-    let refined = refined_as P (formula_of premise) c.args.wide _ c.in_ok-next-in-Some-2.next c.in_ok-cnf.field-0.cnf c.in_ok-next-in-Some-2.ensures refl c.in_ok-cnf.ensures.same refl refl refl in (
-      unmet,
-      refined_of P asked used (used ++ picked premises (c.in-Some-2.number ∷ [])) f (formula_of premise) sizes c.args.wide c.in_ok-next-in-Some-2.next
-          (λ s all. subst (λ g. All (Satisfies s) used × HasTruth (formula_of g) true s) (sym c.index-premises-number.is) (picked_one s c.args.premises.now c.in-Some-2.number premise used below all))
-          refined open',
-    )
+    let new = c.add.new.self in
+    let next = refined_last P asked false sizes used (Some f) (formula_of premise) _ new c.in_ok-add-in-Some-2.ensures (question_as P asked false sizes used (Some f) c.args.wide _ c.in_ok-cnf.ensures.same refl refl open') in
+    let is : picked premises (number ∷ []) ≡ formula_of premise ∷ [] = picked_is fs number premise below ∙ ap (λ g. formula_of g ∷ []) (sym c.index-premises-number.is) in
+    (unmet, subst (λ gs. IsOpenQuestion P asked (used ++ gs) f sizes new) (sym is) next)
