@@ -3,3 +3,5 @@ pub mod Universal
 pub mod Profile
 pub mod Most
 pub mod Sample
+pub mod Verdicts
+pub mod Marked
