@@ -10,7 +10,7 @@ use Rattle.dai_ground.specs.declared.found.Found.{Found}
 use Rattle.dai_ground.specs.declared.found.Answer.{Answer}
 use Rattle.dai_ground.specs.declared.found.Answer.TheVariants.{Holds, Broken}
 use Rattle.dai_ground.specs.Asking.{parameters_asked, choices_asked, outcome_of}
-use Rattle.dai_ground.specs.Answers.{world_of}
+use Rattle.dai_ground.specs.Questions.{world_of}
 use Rattle.dai_query.specs.declared.verdict.Verdict.{Verdict}
 use Rattle.dai_query.specs.declared.verdict.Verdict.TheVariants.{Proved, Counter}
 
