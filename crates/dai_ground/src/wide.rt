@@ -8,12 +8,13 @@ use dai_trail::Cnf;
 #[derive(Drop)]
 pub struct Wide {
     pub cnf: Cnf,
-    /// How many variables at the front decide what is shown.
+    /// How many variables are at the front: over all sizes up to given ones those that decide what is shown, at exactly
+    /// given ones those of the structure before and of the locals.
     pub bits: usize,
     pub(crate) frame: Frame,
     pub(crate) picture: Picture,
     pub ghost over: { IsOver cnf },
 }
 
-/// A question at exactly given sizes. Its variables at the front are those of the structure before and of the locals.
+/// A question at exactly given sizes.
 pub type Grounded = Wide;
