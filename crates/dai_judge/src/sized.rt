@@ -12,8 +12,8 @@ use crate::memory::{Known, Memory};
 use crate::premises::Premises;
 use crate::recall::{Question, copied, recall};
 use dai_base::Spent;
+use dai_ground::asking::ask;
 use dai_ground::found::{Answer, Found};
-use dai_inquiry::by_block::ByBlock;
 use dai_logic::BlockId;
 use dai_weaken::Counterexample;
 use std::alloc::Global;
@@ -22,14 +22,12 @@ use std::alloc::Global;
 /// types as the judge has sizes, if each size is at least 1; once it was asked, the protocols of which all is true
 /// that it remembers.
 ///
-/// It remembers what it proved and the transitions that it showed, and asks the solver of the block's inquiry where these
-/// don't answer.
+/// It remembers what it proved and the transitions that it showed, and asks the solver where these don't answer.
 #[derive(Drop)]
 pub struct SizedJudge {
     pub(crate) alloc: Global,
     pub(crate) sizes: Vec<u16>,
     pub(crate) memory: Memory,
-    pub(crate) inquiries: ByBlock,
 }
 
 /// What was found, by the block.
@@ -85,7 +83,6 @@ impl SizedJudge {
             alloc,
             sizes: Vec::from_slice(alloc, sizes)?,
             memory: Memory::new(alloc),
-            inquiries: ByBlock::new(alloc),
         })
     }
 
@@ -127,10 +124,10 @@ impl SizedJudge {
         ensures same { self.new.sizes.items ≡ self.old.sizes.items }
     {
         let formula = question.space.formula(self.alloc, question.goal)?;
-        let answer = self.inquiries.ask(
+        let answer = ask(
             self.alloc,
             question.protocol,
-            question.block,
+            Some(question.block),
             question.premises.formulas.as_slice(),
             &formula,
             self.sizes.as_slice(),
