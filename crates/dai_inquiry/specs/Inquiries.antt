@@ -48,3 +48,7 @@ pub record IsInquiry (P : Protocol) (sizes : List ℕ) (q : Inquiry) : Type 0 wh
   pub called : Block
   pub named : block_named P q.block ≡ Some called
   pub is_open : IsOpen P called sizes q.circuit q.pictures
+
+-- no question was put to it
+abbrev pub IsFresh : Inquiry → Type 0
+IsFresh q = q.first_vars ≡ q.circuit.vars

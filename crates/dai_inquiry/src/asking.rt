@@ -62,6 +62,7 @@ impl Inquiry {
         ensures later { IsLater self.old self.new }
         ensures turn { IfOk result (λ t. (sizes : List ℕ) (f : Model.Formula) (used : List Model.Formula) → IsInquiry (protocol_of protocol.now) sizes self.old → AreAsked (protocol_of protocol.now) self.old.pictures f used self.old.circuit asked.now → IsTurn (protocol_of protocol.now) (block_named (protocol_of protocol.now) self.old.block) (map formula_of premises.now) used f sizes self.old.pictures self.new.circuit t) }
     {
+        self.calls = self.calls.checked_add(1).ok_or(Spent)?;
         let Some(model) = self.circuit.model_under(asked)? else {
             return Ok(Turn::Done);
         };

@@ -20,4 +20,10 @@ pub struct Inquiry {
     pub(crate) block: BlockId,
     pub(crate) circuit: Circuit,
     pub(crate) pictures: Pictures,
+    /// How many variables there were before the first question.
+    pub(crate) first_vars: usize,
+    /// How often the solver was called, by this inquiry and by those that it took the place of.
+    pub(crate) calls: u64,
+    /// The most clauses that a formula had which was given up.
+    pub(crate) clauses_before: usize,
 }

@@ -1,5 +1,5 @@
 //! A block becomes clauses.
-ghost use Rattle.std.specs.Prelude.{◌≡◌, ◌<◌, Some, IsSome, IfOk, length};
+ghost use Rattle.std.specs.Prelude.{◌≡◌, ◌+◌, ◌<◌, ◌≤◌, true, false, Some, IsSome, IfOk, OnOk, OnErr, length};
 ghost use Rattle.std.specs.List.{All};
 ghost use Rattle.dai_model.specs.Protocol.{Block as CalledBlock};
 ghost use Rattle.dai_model.specs.WellSorted.{IsWellSortedBlock};
@@ -7,7 +7,7 @@ ghost use Rattle.dai_logic.specs.Protocols.{protocol_of, block_named};
 ghost use Rattle.dai_logic.specs.Parts.{block_of};
 ghost use Rattle.dai_logic.specs.Trees.{statements_of};
 ghost use Rattle.dai_picture.specs.Pictures.{IsFrame, IsPicture};
-ghost use Rattle.dai_inquiry.specs.Inquiries.{Follows, IsInquiry};
+ghost use Rattle.dai_inquiry.specs.Inquiries.{Follows, IsInquiry, IsFresh};
 
 use crate::inquiry::{Inquiry, Pictures};
 use dai_base::Spent;
@@ -69,6 +69,7 @@ impl Inquiry {
         requires inhabited { All (λ n. 0 < n) sizes.now }
         ensures block { IfOk result (λ q. q.block ≡ block) }
         ensures is_open { IfOk result (IsInquiry (protocol_of protocol.now) sizes.now) }
+        ensures fresh { IfOk result IsFresh }
     {
         let mut circuit = Circuit::new(alloc);
         let called = called(protocol, block);
@@ -93,6 +94,7 @@ impl Inquiry {
             picture: &picture,
         };
         let after = follow(&mut circuit, &scene, &called.code)?;
+        let first_vars = circuit.formula().vars();
         Ok(Inquiry {
             alloc,
             block,
@@ -102,6 +104,54 @@ impl Inquiry {
                 before: picture,
                 after,
             },
+            first_vars,
+            calls: 0,
+            clauses_before: 0,
         })
+    }
+
+    /// Whether the questions brought at least as many variables as the block itself.
+    pub(crate) fn has_doubled(&self) -> bool
+        ensures grown { result ≡ true → self.now.first_vars + self.now.first_vars ≤ self.now.circuit.vars }
+        ensures small { result ≡ false → self.now.circuit.vars < self.now.first_vars + self.now.first_vars }
+    {
+        self.circuit.formula().vars() / 2 >= self.first_vars
+    }
+
+    /// The most clauses that there were at once, by this inquiry and by those that it took the place of.
+    pub(crate) fn most_clauses(&self) -> usize
+        ensures { length self.now.circuit.clauses ≤ result }
+    {
+        self.clauses_before
+            .max(self.circuit.formula().clause_count())
+    }
+
+    /// Begins anew with the block's clauses alone.
+    ///
+    /// # Errors
+    /// As `open`; the inquiry is as it was then.
+    pub(crate) fn reopen(&mut self, protocol: &Protocol, sizes: &[u16]) -> Result<(), Spent>
+        requires inquiry { IsInquiry (protocol_of protocol.now) sizes.now self.old }
+        requires one_each { length sizes.now ≡ length (protocol_of protocol.now).sorts }
+        requires inhabited { All (λ n. 0 < n) sizes.now }
+        ensures inquiry { IsInquiry (protocol_of protocol.now) sizes.now self.new }
+        ensures block { self.new.block ≡ self.old.block }
+        ensures fresh { OnOk result (IsFresh self.new) }
+        ensures err { OnErr result (self.new ≡ self.old) }
+    {
+        let Inquiry {
+            alloc: _,
+            block: _,
+            circuit,
+            pictures,
+            first_vars,
+            calls: _,
+            clauses_before: _,
+        } = Inquiry::open(self.alloc, protocol, self.block, sizes)?;
+        self.clauses_before = self.most_clauses();
+        self.circuit = circuit;
+        self.pictures = pictures;
+        self.first_vars = first_vars;
+        Ok(())
     }
 }
