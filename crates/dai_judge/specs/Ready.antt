@@ -7,15 +7,17 @@ use Rattle.dai_model.specs.Classes.{up_to}
 use Rattle.dai_model.specs.Template.{Bounds, IsTemplate}
 use Rattle.dai_logic.specs.Trees.{formula_of}
 use Rattle.dai_template.specs.ClauseFormulas.{formula_of_clause}
+use Rattle.dai_inquiry.specs.Places.{AreOpen}
 use Rattle.dai_judge.specs.declared.premises.Premises.{Premises}
 use Rattle.dai_judge.specs.declared.sized.SizedJudge.{SizedJudge}
 use Rattle.dai_judge.specs.Premises.{AreSizesFor}
 use Rattle.dai_judge.specs.Memory.{IsMemoryOf, clauses_in}
 
--- one size for each type, and what is remembered is of the protocol
+-- one size for each type, and what is remembered is of the protocol, as are the inquiries
 pub record IsReady (P : Protocol) (judge : SizedJudge) : Type 0 where
   pub sizes : AreSizesFor P judge.sizes.items
   pub memory : IsMemoryOf (up_to judge.sizes.items) P judge.memory
+  pub inquiries : AreOpen P judge.sizes.items judge.inquiries
 
 -- the formulas and the keys of these templates
 pub record ArePremisesOf (P : Protocol) (clauses : List Clause) (premises : Premises) : Type 0 where

@@ -12,8 +12,8 @@ use crate::memory::{Known, Memory};
 use crate::premises::Premises;
 use crate::recall::{Question, copied, recall};
 use dai_base::Spent;
-use dai_ground::asking::ask;
 use dai_ground::found::{Answer, Found};
+use dai_inquiry::by_block::{ByBlock, Tally};
 use dai_logic::BlockId;
 use dai_weaken::Counterexample;
 use std::alloc::Global;
@@ -22,12 +22,14 @@ use std::alloc::Global;
 /// types as the judge has sizes, if each size is at least 1; once it was asked, the protocols of which all is true
 /// that it remembers.
 ///
-/// It remembers what it proved and the transitions that it showed, and asks the solver where these don't answer.
+/// It remembers what it proved and the transitions that it showed, and asks the solver of the block's inquiry where these
+/// don't answer.
 #[derive(Drop)]
 pub struct SizedJudge {
     pub(crate) alloc: Global,
     pub(crate) sizes: Vec<u16>,
     pub(crate) memory: Memory,
+    pub(crate) inquiries: ByBlock,
 }
 
 /// What was found, by the block.
@@ -83,7 +85,18 @@ impl SizedJudge {
             alloc,
             sizes: Vec::from_slice(alloc, sizes)?,
             memory: Memory::new(alloc),
+            inquiries: ByBlock::new(alloc),
         })
+    }
+
+    /// What the questions took that were put to the solver so far.
+    ///
+    /// # Errors
+    /// `Spent` where there were 2^64 calls.
+    pub fn tally(&self) -> Result<Tally, Spent>
+        ensures { IfOk result (λ tally. tally.questions ≡ self.now.inquiries.questions) }
+    {
+        self.inquiries.tally()
     }
 
     /// How the block leads from a structure within the sizes that meets the axioms and the premises to one that breaks
@@ -124,10 +137,10 @@ impl SizedJudge {
         ensures same { self.new.sizes.items ≡ self.old.sizes.items }
     {
         let formula = question.space.formula(self.alloc, question.goal)?;
-        let answer = ask(
+        let answer = self.inquiries.ask(
             self.alloc,
             question.protocol,
-            Some(question.block),
+            question.block,
             question.premises.formulas.as_slice(),
             &formula,
             self.sizes.as_slice(),
