@@ -4,7 +4,11 @@
 # where each question, at each list of sizes in turn, is a formula of its own with all premises written out, put to a
 # fresh process of picosat or minisat. Both give the same report; where they don't, the status is 1.
 #
-# usage: infer.sh [--program PATH] [--solver picosat|minisat] [--limit SECONDS] [EXAMPLE..]
+# A second table counts what the way down took: rounds and questions; `put`, those put to the solver, since what was
+# proved or shown before answers the rest; `calls` of the solver; `refinements`, the calls beyond the first for a question,
+# each of which brought one premise in; and the most clauses that were held for one block.
+#
+# usage: infer.sh [--program PATH] [--rounds PATH] [--solver picosat|minisat] [--limit SECONDS] [EXAMPLE..]
 #
 # All times are processor time, of one core. Those of the loop (`loop s`) are of the solver's processes alone: neither
 # the time in which Python makes the formulas and writes them (`written s`) nor any other of the loop's own counts.
@@ -14,10 +18,11 @@
 # example is asked with the default bounds, and where its own differ with those too, always with two literals.
 set -eu
 here=$(cd "$(dirname "$0")/.." && pwd)
-program= solver=picosat limit=120
+program= rounds= solver=picosat limit=120
 while [ $# -gt 0 ]; do
     case $1 in
     --program) program=$2 ;;
+    --rounds) rounds=$2 ;;
     --solver) solver=$2 ;;
     --limit) limit=$2 ;;
     -*)
@@ -44,4 +49,8 @@ if [ -z "$program" ]; then
     "$here/distai" infer /dev/null > /dev/null
     program=$here/crates/distai/out/distai
 fi
-exec python3 "$here/bench/infer_times.py" "$program" "$solver" "$limit" "$@"
+if [ -z "$rounds" ]; then
+    (cd "$here/crates/bench_rounds" && rt run -- "$here/examples/lock.ivy" 0 > /dev/null)
+    rounds=$here/crates/bench_rounds/out/bench_rounds
+fi
+exec python3 "$here/bench/infer_times.py" "$program" "$rounds" "$solver" "$limit" "$@"

@@ -1,6 +1,8 @@
 """Prints for each typed example how long `distai infer` takes and how much memory, beside a loop over a solver.
 
-usage: infer_times.py PROGRAM SOLVER LIMIT [EXAMPLE..]
+Then it prints for each what the way down took: questions, calls of the solver, refinements and clauses.
+
+usage: infer_times.py PROGRAM ROUNDS SOLVER LIMIT [EXAMPLE..]
 """
 
 import os
@@ -17,6 +19,8 @@ GOALS = ["lock, token and down in at most 20 starts", "each example in less than
          "each at least 10 times faster than the loop", "each in at most 200 MB"]
 SMALL = ("lock", "token", "down")
 ROW = "{:<36} {:>9} {:>7} {:>6} {:>10} {:>9} {:>7} {:>9} {:>9} {:>8}"
+COUNTS = ["rounds", "questions", "put", "calls", "refinements", "clauses"]
+COUNT_ROW = "{:<36}" + " {:>11}" * len(COUNTS)
 
 
 def once(words, statuses=(0, 1)):
@@ -56,14 +60,22 @@ def commands(path):
     return found
 
 
-def loop_of(program, path, words, solver, folder, limit):
-    """The loop for a file, with the sizes that the program says it needs."""
+def bounds_of(program, path, words):
+    """The sizes that the program says it needs, and the bounds on variables, of each type."""
     counts = [line.split() for line in once([program, "space", path, *words])[1].splitlines()]
     bounds = {line[1]: int(line[2]) for line in counts if line[0] == "bound"}
     most = dict.fromkeys(bounds, 2)
     if "--vars" in words:
         most.update((name, int(count)) for name, count in (part.split("=") for part in words[1].split(",")))
-    return Loop(path.read_text(), bounds, most, 2, solver, folder, limit)
+    return bounds, most
+
+
+def counts_of(rounds, program, path, words):
+    """What the way down took, in the order of `COUNTS`."""
+    _, most = bounds_of(program, path, words)
+    counts = dict(line.split() for line in once([rounds, path, "2", *map(str, most.values())])[1].splitlines())
+    counts["refinements"] = int(counts["calls"]) - int(counts["put"])
+    return [counts[name] for name in COUNTS]
 
 
 def status_of(program, path):
@@ -106,7 +118,8 @@ class Bench:
         title = " ".join([path.stem, *words[:-2]])
         ours, told = best(command)
         memory = held(command)
-        loop, more = loop_of(self.program, path, words, self.solver, self.folder, self.limit), ""
+        bounds, most = bounds_of(self.program, path, words)
+        loop, more = Loop(path.read_text(), bounds, most, 2, self.solver, self.folder, self.limit), ""
         try:
             if loop.report() != told:
                 self.differing.append(title)
@@ -133,7 +146,8 @@ class Bench:
 
 
 def main():
-    program, solver, limit, only = pathlib.Path(sys.argv[1]).resolve(), sys.argv[2], float(sys.argv[3]), sys.argv[4:]
+    program, rounds = (pathlib.Path(path).resolve() for path in sys.argv[1:3])
+    solver, limit, only = sys.argv[3], float(sys.argv[4]), sys.argv[5:]
     # All processes share one core.
     os.sched_setaffinity(0, {max(os.sched_getaffinity(0))})
     paths = typed(program, only)
@@ -143,6 +157,11 @@ def main():
         for path in paths:
             for words in commands(path):
                 bench.row(path, words)
+    print("\n" + COUNT_ROW.format("example", *COUNTS))
+    for path in paths:
+        for words in commands(path):
+            print(COUNT_ROW.format(" ".join([path.stem, *words[:-2]]), *counts_of(rounds, program, path, words)))
+    print()
     bench.goals()
     if bench.differing:
         sys.exit("the loop's report differs: " + ", ".join(bench.differing))
