@@ -1,6 +1,6 @@
-use Rattle.std.proofs.Common.{◌≡◌, ◌+◌, ◌<◌, ◌≤◌, ℕ, zero, suc, Bool, true, false, ◌&&◌, List, [], ◌∷◌, ◌++◌, length, get_or, refl, ap, sym, ◌∙◌, subst, arith, inl, inr, Result, Ok, Err, not}
+use Rattle.std.proofs.Common.{◌≡◌, ◌+◌, ◌<◌, ℕ, zero, suc, Bool, true, false, ◌&&◌, List, [], ◌∷◌, ◌++◌, length, refl, ap, sym, ◌∙◌, subst, arith, inl, inr, Result, Ok, Err, not}
 use Rattle.std.specs.Prelude.{OnOk, OnErr}
-use Rattle.std.specs.List.{All, list_all, list_any}
+use Rattle.std.specs.List.{list_any}
 use Rattle.std.proofs.lemmas.Bool.{cases_lt}
 use Rattle.std.proofs.lemmas.List.{get_or_append_left, get_or_push, length_push}
 use Rattle.std.proofs.lemmas.List.Elements.{All-head, All-tail, All-push}
@@ -9,7 +9,7 @@ use Rattle.dai_trail.specs.declared.cnf.Lit.{Lit}
 use Rattle.dai_trail.specs.Formula.{Formula, IsBelow, IsMetBy, AreMetBy, value_at, formula_of}
 use Rattle.dai_circuit.specs.declared.bit.Bit.{Bit}
 use Rattle.dai_circuit.specs.declared.bit.Bit.TheVariants.{Known, Is}
-use Rattle.dai_circuit.specs.Circuits.{same_value, lit_value, bit_value, negation_of, signed, variable, IsBitBelow, IsOver, Extends, IsBitFor, Defines, Adds, Requires, all_true, any_value}
+use Rattle.dai_circuit.specs.Circuits.{same_value, lit_value, bit_value, negation_of, signed, variable, IsBitBelow, IsOver, Extends, Defines, Adds, Requires, all_true, any_value}
 use Rattle.dai_circuit.proofs.Values.{value_met, met_value, value-negation, below-negation, value-signed, below-signed, same_value-comm}
 
 -- one more clause

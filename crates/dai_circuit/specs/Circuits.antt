@@ -1,11 +1,12 @@
-use Rattle.std.specs.Prelude.{◌≡◌, ◌+◌, ◌<◌, ◌≤◌, ◌∷◌, [], ℕ, Bool, true, false, not, Option, None, Some, Result, List, IfOk, Vec, map}
+use Rattle.std.specs.Prelude.{◌≡◌, ◌<◌, ◌≤◌, ℕ, Bool, true, false, not, Option, None, Some, Result, List, IfOk, length, slice_get}
 use Rattle.std.specs.List.{All, list_all, list_any, filter_map}
 use Rattle.dai_base.specs.declared.memory.Spent.{Spent}
 use Rattle.dai_trail.specs.declared.cnf.Lit.{Lit}
-use Rattle.std.specs.declared.alloc.Global.{Global}
 use Rattle.dai_trail.specs.Formula.{Formula, IsBelow, AreMetBy, IsModelOf, value_at}
 use Rattle.dai_circuit.specs.declared.bit.Bit.{Bit}
 use Rattle.dai_circuit.specs.declared.bit.Bit.TheVariants.{Known, Is}
+use Rattle.dai_circuit.specs.declared.circuit.Solved.{Solved}
+use Rattle.dai_circuit.specs.declared.circuit.Solved.TheVariants.{Model, Core}
 
 -- whether two truth values are the same
 abbrev pub same_value : Bool → Bool → Bool
@@ -111,10 +112,19 @@ pub record Requires (old new : Formula) (parts : List Bit) : Type 0 where
 abbrev pub IsTied : Lit → ℕ → Lit → List Bool → Type 0
 IsTied guard var other bits = lit_value bits guard ≡ false → value_at bits var ≡ lit_value bits other
 
--- an assignment of all variables that meets the clauses and makes each bit true; or none where there is no such assignment
-abbrev pub IsModelUnder : Formula → List Bit → Option (Vec Bool Global) → Type 0
-IsModelUnder formula parts None = (bits : List Bool) → AreMetBy formula bits → all_value parts bits ≡ true → ⊥
-IsModelUnder formula parts (Some model) = IsModelOf formula model.items × (all_value parts model.items ≡ true)
+-- a bit is known to be false, or that of a variable that is marked
+abbrev pub is_marked : List Bool → Bit → Bool
+is_marked marks (Known value) = not value
+is_marked marks (Is l) = value_at marks l.var
+
+-- no assignment that meets the clauses makes the bits of the core true
+abbrev pub IsCore : Formula → List Bit → List Bool → Type 0
+IsCore formula parts core = (bits : List Bool) → AreMetBy formula bits → ((i : ℕ) (part : Bit) → slice_get parts i ≡ Some part → slice_get core i ≡ Some true → bit_value bits part ≡ true) → ⊥
+
+-- an assignment of all variables that meets the clauses and makes each bit true; or a core of the bits
+abbrev pub IsSolved : Formula → List Bit → Solved → Type 0
+IsSolved formula parts (Model model) = IsModelOf formula model.items × (all_value parts model.items ≡ true)
+IsSolved formula parts (Core core) = (length core.items ≡ length parts) × IsCore formula parts core.items
 
 -- the literals of bits, none of which is known to be false
 pub record AreLiteralsOf (parts : List Bit) (lits : List Lit) : Type 0 where

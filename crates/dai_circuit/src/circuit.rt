@@ -3,10 +3,10 @@ ghost use Rattle.dai_trail.specs.Formula.{Formula, IsBelow, AreMetBy, formula_of
 ghost use Rattle.dai_trail.specs.declared.cnf.Lit.{Lit};
 ghost use Rattle.dai_sat.specs.Under.{IsOutcomeOf};
 ghost use Rattle.dai_circuit.specs.declared.bit.Bit.{Bit};
-ghost use Rattle.dai_circuit.specs.Circuits.{AreBitsBelow, IsBitBelow, IsBitFor, Extends, Defines, Adds, Requires, IsTied, IsOver, bit_value, lit_value, same_value, all_value, any_value, all_true, variable, IsModelUnder, AreLiteralsOf};
+ghost use Rattle.dai_circuit.specs.Circuits.{AreBitsBelow, IsBitBelow, IsBitFor, Extends, Defines, Adds, Requires, IsTied, IsOver, bit_value, lit_value, same_value, all_value, any_value, all_true, variable, IsSolved, AreLiteralsOf};
 
 use crate::bit::{Bit, opposite};
-use crate::parts::{converse, has_known, literals, negations};
+use crate::parts::{converse, has_known, literals, marked, negations, variables_of};
 use dai_base::Spent;
 use dai_sat::{Outcome, Solver};
 use dai_trail::codes::MOST_VARS;
@@ -14,13 +14,26 @@ use dai_trail::{Cnf, Lit};
 use std::alloc::Global;
 use std::marker::Model;
 
-/// The model of an outcome, if it is one.
-fn model_of(outcome: Outcome) -> Option<Vec<bool>>
-    ensures { (f : Formula) (parts : List Bit) (lits : List Lit) → IsOver f → AreBitsBelow f.vars parts → AreLiteralsOf parts lits → IsOutcomeOf f lits outcome → IsModelUnder f parts result }
+/// What a question came to.
+#[derive(Drop)]
+pub enum Solved {
+    /// An assignment of all variables that meets the formula and in which the bits are true.
+    Model(Vec<bool>),
+    /// Of each of the bits whether it is in a core: no assignment that meets the formula makes all bits of the core true.
+    Core(Vec<bool>),
+}
+
+/// What an outcome says of the bits.
+fn told_by(alloc: Global, vars: usize, parts: &[Bit], outcome: Outcome) -> Result<Solved, Spent>
+    requires { (f : Formula) × (lits : List Lit) × (f.vars ≡ vars) × AreBitsBelow vars parts.now × AreLiteralsOf parts.now lits × IsOutcomeOf f lits outcome }
+    ensures { IfOk result (λ answer. (f : Formula) (lits : List Lit) → IsOver f → AreBitsBelow f.vars parts.now → AreLiteralsOf parts.now lits → IsOutcomeOf f lits outcome → IsSolved f parts.now answer) }
 {
     match outcome {
-        Outcome::Model(model) => Some(model),
-        Outcome::Unsat(_) => None,
+        Outcome::Model(model) => Ok(Solved::Model(model)),
+        Outcome::Unsat(names) => {
+            let marks = variables_of(alloc, vars, names.as_slice())?;
+            Ok(Solved::Core(marked(alloc, parts, marks.as_slice())?))
+        }
     }
 }
 
@@ -81,22 +94,22 @@ impl Circuit {
         self.solver.into_formula()
     }
 
-    /// Looks for an assignment that meets the formula and in which all these bits are true. `None` comes exactly where
-    /// there is none.
+    /// Looks for an assignment that meets the formula and in which all these bits are true. A core comes exactly where
+    /// there is none; it is what the solver's proof used of the bits.
     ///
     /// # Errors
     /// `Spent` where memory is wanting. The formula is as it was in each case.
-    pub fn model_under(&mut self, parts: &[Bit]) -> Result<Option<Vec<bool>>, Spent>
+    pub fn solve_under(&mut self, parts: &[Bit]) -> Result<Solved, Spent>
         requires { AreBitsBelow self.old.vars parts.now }
         ensures same { self.new ≡ self.old }
-        ensures model { IfOk result (IsModelUnder self.old parts.now) }
+        ensures answer { IfOk result (IsSolved self.old parts.now) }
     {
         if has_known(parts, false) {
-            return Ok(None);
+            return Ok(Solved::Core(marked(self.alloc, parts, &[])?));
         }
         let lits = literals(self.alloc, parts)?;
         let outcome = self.solver.solve_under(lits.as_slice())?;
-        Ok(model_of(outcome))
+        told_by(self.alloc, self.solver.formula().vars(), parts, outcome)
     }
 
     /// A new variable, which is free.

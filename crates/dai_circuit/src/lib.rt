@@ -12,4 +12,4 @@ mod parts;
 mod tests;
 
 pub use bit::Bit;
-pub use circuit::Circuit;
+pub use circuit::{Circuit, Solved};

@@ -1,6 +1,7 @@
-ghost use Rattle.std.specs.Prelude.{◌≡◌, ◌∷◌, map, IfOk};
-ghost use Rattle.std.specs.List.{list_any};
-ghost use Rattle.dai_circuit.specs.Circuits.{is_known as is_known_to_be, literals_of, negation_of, opposite as opposite_literal, variable};
+ghost use Rattle.std.specs.Prelude.{◌≡◌, ◌∷◌, true, map, IfOk};
+ghost use Rattle.std.specs.List.{All, list_any};
+ghost use Rattle.dai_trail.specs.Formula.{IsBelow, value_at};
+ghost use Rattle.dai_circuit.specs.Circuits.{is_known as is_known_to_be, is_marked as is_over_marked, literals_of, negation_of, opposite as opposite_literal, variable};
 
 use crate::bit::{Bit, opposite};
 use dai_base::Spent;
@@ -67,4 +68,37 @@ pub(crate) fn converse(alloc: Global, var: usize, lits: &[Lit]) -> Result<Vec<Li
         clause.push(opposite(*lit))?;
     }
     Ok(clause)
+}
+
+/// Of each variable below a count whether one of the literals is over it.
+pub(crate) fn variables_of(alloc: Global, vars: usize, lits: &[Lit]) -> Result<Vec<bool>, Spent>
+    requires { IsBelow vars lits.now }
+    ensures { IfOk result (λ marks. All (λ l. value_at marks.items l.var ≡ true) lits.now) }
+{
+    let mut marks = vec![in alloc; false; vars]?;
+    for lit in lits {
+        marks[lit.var] = true;
+    }
+    Ok(marks)
+}
+
+/// Whether a bit is known to be false, or that of a variable that is marked.
+fn is_marked(part: Bit, marks: &[bool]) -> bool
+    ensures { result ≡ is_over_marked marks.now part }
+{
+    match part {
+        Bit::Known(value) => !value,
+        Bit::Is(lit) => marks.get(lit.var).copied().unwrap_or(false),
+    }
+}
+
+/// The same of each of the bits.
+pub(crate) fn marked(alloc: Global, parts: &[Bit], marks: &[bool]) -> Result<Vec<bool>, Spent>
+    ensures { IfOk result (λ flags. flags.items ≡ map (is_over_marked marks.now) parts.now) }
+{
+    let mut flags = Vec::new(alloc);
+    for part in parts {
+        flags.push(is_marked(*part, marks))?;
+    }
+    Ok(flags)
 }

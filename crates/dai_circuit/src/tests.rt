@@ -175,3 +175,56 @@ fn truth_tables(rt: HostRuntime) -> Result<(), Fail> {
     }
     Ok(())
 }
+
+/// What the circuit answers where some input of the first two is true: the values of the bits in a model, or a `c` for
+/// each bit of the core.
+fn answer(alloc: Global, letters: &str) -> Result<Vec<u8>, Spent> {
+    let mut circuit = Circuit::new(alloc);
+    let inputs = [circuit.input()?, circuit.input()?, circuit.input()?];
+    let mut parts = Vec::new(alloc);
+    for letter in letters.as_bytes() {
+        parts.push(part(inputs, *letter))?;
+    }
+    let either = [inputs[0], inputs[1]];
+    if !are_below(parts.as_slice(), circuit.formula().vars())
+        || !are_below(&either, circuit.formula().vars())
+    {
+        return Err(Spent);
+    }
+    circuit.require(&either)?;
+    if !are_below(parts.as_slice(), circuit.formula().vars()) {
+        return Err(Spent);
+    }
+    let mut told = Vec::new(alloc);
+    match circuit.solve_under(parts.as_slice())? {
+        Solved::Model(model) => {
+            for part in &parts {
+                told.push(if value(*part, &model) { b'1' } else { b'0' })?;
+            }
+        }
+        Solved::Core(core) => {
+            for is_needed in &core {
+                told.push(if *is_needed { b'c' } else { b'-' })?;
+            }
+        }
+    }
+    Ok(told)
+}
+
+#[test]
+fn models_and_cores(rt: HostRuntime) -> Result<(), Fail> {
+    for (letters, expected) in [
+        ("", ""),
+        ("A", "1"),
+        ("Abc1", "1111"),
+        ("AB", "cc"),
+        ("AcB", "c-c"),
+        ("1AB", "-cc"),
+        ("a0b", "-c-"),
+        ("cC", "cc"),
+    ] {
+        let told = answer(rt.alloc(), letters)?;
+        assert!(rt; told.as_slice() == expected.as_bytes());
+    }
+    Ok(())
+}

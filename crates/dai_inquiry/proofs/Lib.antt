@@ -1,4 +1,5 @@
 pub mod Opened
-pub mod Truths
+pub mod Bits
+pub mod Cores
 pub mod Turning
 pub mod Places

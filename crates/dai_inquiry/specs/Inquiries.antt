@@ -1,5 +1,5 @@
 -- Inquiries: clauses that show from where a block leaves a structure, and what it leaves.
-use Rattle.std.specs.Prelude.{◌≡◌, ℕ, Bool, false, List, Option, None, Some}
+use Rattle.std.specs.Prelude.{◌≡◌, ℕ, Bool, false, List, [], None, Some}
 use Rattle.dai_model.specs.Protocol.{Protocol, Block}
 use Rattle.dai_model.specs.Structure.{Structure}
 use Rattle.dai_model.specs.Execution.{executes}
@@ -13,6 +13,7 @@ use Rattle.dai_picture.specs.Worlds.{World, IsWorld, ShowsWorld}
 use Rattle.dai_ground.specs.Asking.{Asks, Refutes, Restricts, EachWorld, SomeWorld}
 use Rattle.dai_inquiry.specs.declared.inquiry.Inquiry.{Inquiry}
 use Rattle.dai_inquiry.specs.declared.inquiry.Pictures.{Pictures}
+use Rattle.dai_inquiry.specs.Truths.{AreTruths}
 
 -- the world's structure meets the axioms, and the block leaves something from it
 abbrev pub Leaves : Protocol → Block → World → Type 0
@@ -37,18 +38,24 @@ pub record IsOpen (P : Protocol) (called : Block) (sizes : List ℕ) (clauses : 
   pub asks : Asks P called.parameters called.choices false (Leaves P called) (Leaves P called) clauses p.frame p.before
   pub shows : ShowsAfter P called clauses p.frame p.before p.after
 
--- the same inquiry after questions: definitions were added
-pub record IsLater (old new : Inquiry) : Type 0 where
+-- the same inquiry after questions: definitions were added, and each bit that is kept is its clause's if each was
+pub record IsLater (P : Protocol) (old new : Inquiry) : Type 0 where
   pub block : new.block ≡ old.block
   pub pictures : new.pictures ≡ old.pictures
   pub extends : Extends old.circuit new.circuit
+  pub premises : AreTruths P old.pictures.frame old.pictures.before old.circuit old.premises.kept.items → AreTruths P old.pictures.frame old.pictures.before new.circuit new.premises.kept.items
+  pub goals : AreTruths P old.pictures.frame old.pictures.after old.circuit old.goals.kept.items → AreTruths P old.pictures.frame old.pictures.after new.circuit new.goals.kept.items
 
 -- an inquiry of a block of the protocol
 pub record IsInquiry (P : Protocol) (sizes : List ℕ) (q : Inquiry) : Type 0 where
   pub called : Block
   pub named : block_named P q.block ≡ Some called
   pub is_open : IsOpen P called sizes q.circuit q.pictures
+  pub premises : AreTruths P q.pictures.frame q.pictures.before q.circuit q.premises.kept.items
+  pub goals : AreTruths P q.pictures.frame q.pictures.after q.circuit q.goals.kept.items
 
--- no question was put to it
-abbrev pub IsFresh : Inquiry → Type 0
-IsFresh q = q.first_vars ≡ q.circuit.vars
+-- no clause was grounded for a question
+pub record IsFresh (q : Inquiry) : Type 0 where
+  pub premises : q.premises.kept.items ≡ []
+  pub goals : q.goals.kept.items ≡ []
+  pub goal_vars : q.goal_vars ≡ 0

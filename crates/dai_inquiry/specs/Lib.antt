@@ -1,3 +1,5 @@
+pub mod Keys
+pub mod Truths
 pub mod Inquiries
 pub mod Asked
 pub mod Places

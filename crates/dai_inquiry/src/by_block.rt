@@ -5,10 +5,13 @@ ghost use Rattle.dai_model.specs.WellSorted.{IsWellSorted, closed_scope};
 ghost use Rattle.dai_logic.specs.Protocols.{protocol_of, block_named};
 ghost use Rattle.dai_logic.specs.declared.structure.BlockId.{BlockId};
 ghost use Rattle.dai_logic.specs.Trees.{formula_of};
+ghost use Rattle.dai_template.specs.ClauseFormulas.{formula_of_clause};
 ghost use Rattle.dai_ground.specs.Answers.{IsAnswerTo};
+ghost use Rattle.dai_inquiry.specs.Keys.{clause_in, clauses_in};
 ghost use Rattle.dai_inquiry.specs.Places.{AreOpen, IsPlaceOf};
 
 use crate::inquiry::Inquiry;
+use crate::keys::Key;
 use dai_base::Spent;
 use dai_ground::found::Answer;
 use dai_logic::{BlockId, Formula, Protocol};
@@ -19,7 +22,7 @@ use std::alloc::Global;
 pub struct Tally {
     /// The questions that were put.
     pub questions: u64,
-    /// The calls of a solver: one for each question, and one more for each premise that a question brought in.
+    /// The calls of a solver: one for each question, and one more for each premise that was grounded.
     pub calls: u64,
     /// The most clauses that one formula had.
     pub clauses: usize,
@@ -97,7 +100,7 @@ impl ByBlock {
         Ok(place)
     }
 
-    /// Begins the inquiry at the place anew where its questions brought as much as its block.
+    /// Begins the inquiry at the place anew where half of it are goals.
     fn renew(&mut self, protocol: &Protocol, place: usize, sizes: &[u16]) -> Result<(), Spent>
         requires open { AreOpen (protocol_of protocol.now) sizes.now self.old }
         requires inside { place < length self.old.opened.items }
@@ -108,7 +111,7 @@ impl ByBlock {
         ensures kept { self.new.questions ≡ self.old.questions }
     {
         let inquiry = &mut self.opened[place];
-        if !inquiry.has_doubled() {
+        if !inquiry.is_mostly_goals() {
             return Ok(());
         }
         inquiry.reopen(protocol, sizes)
@@ -149,13 +152,17 @@ impl ByBlock {
         protocol: &Protocol,
         block: BlockId,
         premises: &[Formula],
+        keys: &[Key],
         broken: &Formula,
+        goal: &Key,
         sizes: &[u16],
     ) -> Result<Answer, Spent>
         requires open { AreOpen (protocol_of protocol.now) sizes.now self.old }
         requires known { IsSome (block_named (protocol_of protocol.now) block) }
         requires premises { All (IsWellSorted (protocol_of protocol.now) closed_scope) (map formula_of premises.now) }
         requires closed { IsWellSorted (protocol_of protocol.now) closed_scope (formula_of broken.now) }
+        requires keys { map formula_of premises.now ≡ map (formula_of_clause (protocol_of protocol.now)) (clauses_in keys.now) }
+        requires goal { formula_of broken.now ≡ formula_of_clause (protocol_of protocol.now) (clause_in goal.now) }
         requires one_each { length sizes.now ≡ length (protocol_of protocol.now).sorts }
         requires inhabited { All (λ n. 0 < n) sizes.now }
         ensures open { AreOpen (protocol_of protocol.now) sizes.now self.new }
@@ -165,6 +172,6 @@ impl ByBlock {
         let place = self.place_of(alloc, protocol, block, sizes)?;
         self.questions = self.questions.checked_add(1).ok_or(Spent)?;
         let inquiry = &mut self.opened[place];
-        inquiry.ask(protocol, premises, broken)
+        inquiry.ask(protocol, premises, keys, broken, goal)
     }
 }

@@ -1,5 +1,6 @@
 //! What an inquiry is.
 
+use crate::truths::Truths;
 use dai_circuit::Circuit;
 use dai_logic::BlockId;
 use dai_picture::{Frame, Picture};
@@ -20,8 +21,12 @@ pub struct Inquiry {
     pub(crate) block: BlockId,
     pub(crate) circuit: Circuit,
     pub(crate) pictures: Pictures,
-    /// How many variables there were before the first question.
-    pub(crate) first_vars: usize,
+    /// The clauses that were grounded as premises, in what is before the step.
+    pub(crate) premises: Truths,
+    /// The clauses that were grounded as goals, in what is after it.
+    pub(crate) goals: Truths,
+    /// How many variables the goals brought.
+    pub(crate) goal_vars: usize,
     /// How often the solver was called, by this inquiry and by those that it took the place of.
     pub(crate) calls: u64,
     /// The most clauses that a formula had which was given up.

@@ -10,6 +10,7 @@ ghost use Rattle.dai_picture.specs.Pictures.{IsFrame, IsPicture};
 ghost use Rattle.dai_inquiry.specs.Inquiries.{Follows, IsInquiry, IsFresh};
 
 use crate::inquiry::{Inquiry, Pictures};
+use crate::truths::Truths;
 use dai_base::Spent;
 use dai_circuit::{Bit, Circuit};
 use dai_ground::candidates::Scene;
@@ -94,7 +95,6 @@ impl Inquiry {
             picture: &picture,
         };
         let after = follow(&mut circuit, &scene, &called.code)?;
-        let first_vars = circuit.formula().vars();
         Ok(Inquiry {
             alloc,
             block,
@@ -104,18 +104,20 @@ impl Inquiry {
                 before: picture,
                 after,
             },
-            first_vars,
+            premises: Truths::new(alloc),
+            goals: Truths::new(alloc),
+            goal_vars: 0,
             calls: 0,
             clauses_before: 0,
         })
     }
 
-    /// Whether the questions brought at least as many variables as the block itself.
-    pub(crate) fn has_doubled(&self) -> bool
-        ensures grown { result ≡ true → self.now.first_vars + self.now.first_vars ≤ self.now.circuit.vars }
-        ensures small { result ≡ false → self.now.circuit.vars < self.now.first_vars + self.now.first_vars }
+    /// Whether the goals brought at least half of the variables.
+    pub(crate) fn is_mostly_goals(&self) -> bool
+        ensures grown { result ≡ true → self.now.circuit.vars ≤ self.now.goal_vars + self.now.goal_vars + 1 }
+        ensures small { result ≡ false → self.now.goal_vars + self.now.goal_vars + 1 < self.now.circuit.vars }
     {
-        self.circuit.formula().vars() / 2 >= self.first_vars
+        self.circuit.formula().vars() / 2 <= self.goal_vars
     }
 
     /// The most clauses that there were at once, by this inquiry and by those that it took the place of.
@@ -144,14 +146,18 @@ impl Inquiry {
             block: _,
             circuit,
             pictures,
-            first_vars,
+            premises,
+            goals,
+            goal_vars,
             calls: _,
             clauses_before: _,
         } = Inquiry::open(self.alloc, protocol, self.block, sizes)?;
         self.clauses_before = self.most_clauses();
         self.circuit = circuit;
         self.pictures = pictures;
-        self.first_vars = first_vars;
+        self.premises = premises;
+        self.goals = goals;
+        self.goal_vars = goal_vars;
         Ok(())
     }
 }

@@ -9,8 +9,9 @@ use Rattle.std.proofs.lemmas.List.Elements.{filter_map-append}
 use Rattle.std.proofs.lemmas.Option.{slice_get-get_or}
 use Rattle.dai_model.proofs.Below.{slice_get-some}
 use Rattle.dai_model.specs.Clause.{Clause}
-use Rattle.dai_judge.specs.declared.keys.Key.{Key}
-use Rattle.dai_judge.specs.Memory.{clause_in, clauses_in, picked_of, AreAmong}
+use Rattle.dai_inquiry.specs.declared.keys.Key.{Key}
+use Rattle.dai_inquiry.specs.Keys.{clause_in, clauses_in}
+use Rattle.dai_judge.specs.Memory.{picked_of, AreAmong}
 
 -- a key of the list stands for a clause of it
 pub member_at : (keys : List Key) (i : ℕ) (own : Key) (c : Clause) → i < length keys → own ≡ get_or keys i own → clause_in own ≡ c → Contains (clauses_in keys) c

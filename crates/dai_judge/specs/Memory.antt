@@ -1,5 +1,5 @@
 -- What a judge remembers of a protocol: what it has proved, each with the clauses that it needed, and transitions.
-use Rattle.std.specs.Prelude.{◌≡◌, ℕ, List, Option, None, Some, map, take, drop, slice_get}
+use Rattle.std.specs.Prelude.{◌≡◌, ℕ, List, Option, None, Some, slice_get}
 use Rattle.std.specs.List.{All, Contains, filter_map}
 use Rattle.dai_model.specs.Protocol.{Protocol, Action}
 use Rattle.dai_model.specs.Clause.{Clause, Meets, MeetsEach}
@@ -9,16 +9,9 @@ use Rattle.dai_logic.specs.declared.structure.BlockId.TheVariants.{Init, Act}
 use Rattle.dai_logic.specs.Tables.{structure_of, IsCopy}
 use Rattle.dai_weaken.specs.declared.judge.Counterexample.{Counterexample}
 use Rattle.dai_weaken.specs.Judging.{HoldsAtFirst, HoldsAfter, IsTransition}
-use Rattle.dai_judge.specs.declared.keys.Key.{Key}
+use Rattle.dai_inquiry.specs.Keys.{clause_in, clauses_in}
 use Rattle.dai_judge.specs.declared.memory.Known.{Known}
 use Rattle.dai_judge.specs.declared.memory.Memory.{Memory}
-
--- the clause that a key stands for
-abbrev pub clause_in : Key → Clause
-clause_in k = record { counts = take k.types k.bytes.items; literals = drop k.types k.bytes.items }
-
-abbrev pub clauses_in : List Key → List Clause
-clauses_in keys = map clause_in keys
 
 -- init leads to the clause; or the action of this number does, from the structures that meet the premises
 abbrev pub Keeps : Class → Protocol → BlockId → List Clause → Clause → Type 0

@@ -11,7 +11,8 @@ use Rattle.dai_inquiry.specs.Places.{AreOpen}
 use Rattle.dai_judge.specs.declared.premises.Premises.{Premises}
 use Rattle.dai_judge.specs.declared.sized.SizedJudge.{SizedJudge}
 use Rattle.dai_judge.specs.Premises.{AreSizesFor}
-use Rattle.dai_judge.specs.Memory.{IsMemoryOf, clauses_in}
+use Rattle.dai_inquiry.specs.Keys.{clauses_in}
+use Rattle.dai_judge.specs.Memory.{IsMemoryOf}
 
 -- one size for each type, and what is remembered is of the protocol, as are the inquiries
 pub record IsReady (P : Protocol) (judge : SizedJudge) : Type 0 where

@@ -1,18 +1,12 @@
-//! Clauses apart from any space.
-ghost use Rattle.std.specs.Prelude.{◌≡◌, ◌<◌, length, IsTrue, IfOk};
+//! The keys of a space's clauses.
+ghost use Rattle.std.specs.Prelude.{◌≡◌, ◌<◌, length, IfOk};
 ghost use Rattle.dai_template.specs.Spaces.{clause_of};
-ghost use Rattle.dai_judge.specs.Memory.{clause_in};
+ghost use Rattle.dai_inquiry.specs.Keys.{clause_in};
 
 use dai_base::Spent;
+use dai_inquiry::keys::Key;
 use dai_template::{Clause, Space};
 use std::alloc::Global;
-
-/// The numbers of a clause's variables, one for each of so many types, and behind them its literals.
-#[derive(Drop)]
-pub struct Key {
-    pub types: usize,
-    pub bytes: Vec<u8>,
-}
 
 /// The key of the clause.
 pub(crate) fn key_of(alloc: Global, space: &Space, clause: &Clause) -> Result<Key, Spent>
@@ -26,21 +20,4 @@ pub(crate) fn key_of(alloc: Global, space: &Space, clause: &Clause) -> Result<Ke
         types: counts.len(),
         bytes,
     })
-}
-
-/// A copy of the key.
-pub(crate) fn copy(alloc: Global, key: &Key) -> Result<Key, Spent>
-    ensures { IfOk result (λ copied. clause_in copied ≡ clause_in key.now) }
-{
-    Ok(Key {
-        types: key.types,
-        bytes: Vec::from_slice(alloc, &key.bytes)?,
-    })
-}
-
-/// Whether the keys stand for one clause.
-pub(crate) fn is_same(first: &Key, second: &Key) -> bool
-    ensures { IsTrue result → clause_in first.now ≡ clause_in second.now }
-{
-    first.types == second.types && first.bytes.as_slice() == second.bytes.as_slice()
 }

@@ -5,11 +5,12 @@ ghost use Rattle.std.specs.Prelude.{◌≡◌, ◌<◌, length, slice_get, Some,
 ghost use Rattle.dai_model.specs.Classes.{Class};
 ghost use Rattle.dai_model.specs.Protocol.{Protocol as Meaning};
 ghost use Rattle.dai_weaken.specs.Judging.{IsTransition};
-ghost use Rattle.dai_judge.specs.Memory.{clause_in, clauses_in, Keeps, IsKnown, IsMemoryOf};
+ghost use Rattle.dai_inquiry.specs.Keys.{clause_in, clauses_in};
+ghost use Rattle.dai_judge.specs.Memory.{Keeps, IsKnown, IsMemoryOf};
 
-use crate::keys::{Key, is_same};
 use crate::premises::Premises;
 use dai_base::Spent;
+use dai_inquiry::keys::{Key, is_same};
 use dai_logic::BlockId;
 use dai_weaken::Counterexample;
 use indexmap::IndexMap;

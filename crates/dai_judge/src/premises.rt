@@ -5,10 +5,11 @@ ghost use Rattle.dai_logic.specs.Trees.{formula_of};
 ghost use Rattle.dai_template.specs.ClauseFormulas.{formula_of_clause};
 ghost use Rattle.dai_template.specs.Lists.{clauses_of};
 ghost use Rattle.dai_weaken.specs.Questions.{ArePremises};
-ghost use Rattle.dai_judge.specs.Memory.{clauses_in};
+ghost use Rattle.dai_inquiry.specs.Keys.{clauses_in};
 
-use crate::keys::{Key, is_same, key_of};
+use crate::keys::key_of;
 use dai_base::Spent;
+use dai_inquiry::keys::{Key, is_same};
 use dai_logic::Formula;
 use dai_template::{Clause, Space};
 use indexmap::IndexMap;
@@ -61,7 +62,8 @@ pub(crate) fn places(alloc: Global, keys: &[Key]) -> Result<IndexMap<Vec<u8>, us
 
 impl Premises {
     ghost use Rattle.std.specs.List.{Contains};
-    ghost use Rattle.dai_judge.specs.Memory.{clause_in, AreAmong};
+    ghost use Rattle.dai_inquiry.specs.Keys.{clause_in};
+    ghost use Rattle.dai_judge.specs.Memory.{AreAmong};
 
     /// No premise.
     pub(crate) fn none(alloc: Global) -> Premises

@@ -5,15 +5,17 @@ ghost use Rattle.dai_model.specs.Clause as Model;
 ghost use Rattle.dai_model.specs.Protocol.{Protocol as Meaning};
 ghost use Rattle.dai_logic.specs.Protocols.{protocol_of};
 ghost use Rattle.dai_judge.specs.Answers.{found_in};
-ghost use Rattle.dai_judge.specs.Memory.{clauses_in, picked_of};
+ghost use Rattle.dai_inquiry.specs.Keys.{clauses_in};
+ghost use Rattle.dai_judge.specs.Memory.{picked_of};
 
-use crate::keys::{Key, copy, key_of};
+use crate::keys::key_of;
 use crate::memory::{Known, Memory};
 use crate::premises::Premises;
 use crate::recall::{Question, copied, recall};
 use dai_base::Spent;
 use dai_ground::found::{Answer, Found};
 use dai_inquiry::by_block::{ByBlock, Tally};
+use dai_inquiry::keys::{Key, copy};
 use dai_logic::BlockId;
 use dai_weaken::Counterexample;
 use std::alloc::Global;
@@ -73,7 +75,8 @@ impl SizedJudge {
     ghost use Rattle.dai_weaken.specs.Questions.{IsGoal};
     ghost use Rattle.dai_judge.specs.Premises.{AreSizesFor};
     ghost use Rattle.dai_weaken.specs.Judging.{IsTransition};
-    ghost use Rattle.dai_judge.specs.Memory.{Decides, Keeps, clause_in};
+    ghost use Rattle.dai_inquiry.specs.Keys.{clause_in};
+    ghost use Rattle.dai_judge.specs.Memory.{Decides, Keeps};
     ghost use Rattle.dai_judge.specs.Ready.{IsReady, ArePremisesOf};
 
     /// A judge over the structures with at most so many elements of each type. `Spent` is want of memory.
@@ -142,7 +145,9 @@ impl SizedJudge {
             question.protocol,
             question.block,
             question.premises.formulas.as_slice(),
+            question.premises.keys.as_slice(),
             &formula,
+            &key,
             self.sizes.as_slice(),
         )?;
         match answer {

@@ -1,5 +1,4 @@
-use Rattle.std.proofs.Common.{◌≡◌, ◌++◌, ◌∷◌, [], List, arith, rules, ap, sym, ◌∙◌}
-use Rattle.dai_trail.specs.declared.cnf.Lit.{Lit}
+use Rattle.std.proofs.Common.{◌++◌, ◌∷◌, [], ap, sym, ◌∙◌}
 use Rattle.dai_circuit.proofs.Values.{literals_known, literals_is}
 use Rattle.dai_circuit.proofs.parts.literals.Goals as goal
 

@@ -2,8 +2,8 @@ use Rattle.std.proofs.lemmas.Result.{IfOk-weaker}
 use Rattle.dai_logic.specs.Protocols.{protocol_of}
 use Rattle.dai_logic.specs.Trees.{formula_of}
 use Rattle.dai_ground.proofs.Restrictions.{closed_in}
-use Rattle.dai_inquiry.specs.Asked.{IsTruth}
-use Rattle.dai_inquiry.proofs.Truths.{truth_of}
+use Rattle.dai_inquiry.specs.Truths.{IsTruth}
+use Rattle.dai_inquiry.proofs.Bits.{truth_of}
 use Rattle.dai_inquiry.proofs.asking.truth.Goals as goal
 
 pub ground_alone-requires : goal.ground_alone-requires

@@ -1,4 +1,4 @@
-use Rattle.std.proofs.Common.{◌≡◌, true, subst, sym}
+use Rattle.std.proofs.Common.{true, subst}
 use Rattle.dai_circuit.specs.declared.bit.Bit.TheVariants.{Known}
 use Rattle.dai_logic.specs.Protocols.{protocol_of}
 use Rattle.dai_logic.specs.Trees.{statements_of}

@@ -1,5 +1,6 @@
 use Rattle.std.proofs.Common.{subst, refl}
-use Rattle.dai_judge.specs.Memory.{clause_in, clauses_in, Keeps, AreAmong}
+use Rattle.dai_inquiry.specs.Keys.{clause_in, clauses_in}
+use Rattle.dai_judge.specs.Memory.{Keeps, AreAmong}
 use Rattle.dai_judge.proofs.Picks.{keeps_more}
 use Rattle.dai_judge.proofs.memory.tells.Goals as goal
 

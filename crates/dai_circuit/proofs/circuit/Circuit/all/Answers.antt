@@ -1,4 +1,4 @@
-use Rattle.std.proofs.Common.{rules, ◌≡◌, List, Bool, ap, sym, subst, ◌∙◌}
+use Rattle.std.proofs.Common.{rules, List, ap, sym, subst, ◌∙◌}
 use Rattle.dai_trail.specs.declared.cnf.Lit.{Lit}
 use Rattle.dai_trail.specs.Formula.{IsBelow}
 use Rattle.dai_circuit.specs.Circuits.{all_true, all_value}

@@ -1,4 +1,4 @@
-use Rattle.std.proofs.Common.{rules, ◌≡◌, List, Bool, Ok, Result, not, ap, sym, subst, ◌∙◌}
+use Rattle.std.proofs.Common.{rules, List, Ok, Result, not, ap, sym, subst, ◌∙◌}
 use Rattle.dai_base.specs.declared.memory.Spent.{Spent}
 use Rattle.dai_circuit.specs.declared.bit.Bit.{Bit}
 use Rattle.dai_circuit.specs.Circuits.{all_value, any_value, AreBitsBelow, Defines}

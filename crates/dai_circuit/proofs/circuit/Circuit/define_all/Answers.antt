@@ -1,4 +1,4 @@
-use Rattle.std.proofs.Common.{arith, rules, ap}
+use Rattle.std.proofs.Common.{rules}
 use Rattle.dai_circuit.specs.Circuits.{all_true}
 use Rattle.dai_circuit.proofs.Extensions.{all_true-local, below_grown, defines_tied, extends_equal, extends_tied}
 use Rattle.dai_circuit.proofs.circuit.Circuit.define_all.Goals as goal

@@ -1,4 +1,4 @@
-use Rattle.std.proofs.Common.{◌≡◌, List, ap, sym, subst, ◌∙◌}
+use Rattle.std.proofs.Common.{List, ap, sym, subst, ◌∙◌}
 use Rattle.std.specs.List.{list_any}
 use Rattle.dai_trail.specs.declared.cnf.Lit.{Lit}
 use Rattle.dai_trail.specs.Formula.{IsBelow}

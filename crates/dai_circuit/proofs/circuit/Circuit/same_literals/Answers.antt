@@ -1,6 +1,5 @@
-use Rattle.std.proofs.Common.{rules, ◌≡◌, List, Bool, arith, ap, sym, ◌∙◌}
+use Rattle.std.proofs.Common.{rules, List, Bool, arith, ap, ◌∙◌}
 use Rattle.dai_trail.specs.Formula.{value_at}
-use Rattle.dai_circuit.specs.declared.bit.Bit.TheVariants.{Known}
 use Rattle.dai_circuit.specs.Circuits.{same_value, lit_value}
 use Rattle.dai_circuit.proofs.Values.{same_variable, beq_same}
 use Rattle.dai_circuit.proofs.Extensions.{same-local, defines_old, defines_tied, extends_equal, extends_tied}

@@ -1,4 +1,4 @@
-use Rattle.std.proofs.Common.{◌≡◌, ◌<◌, List, Bool, arith, sym, subst, ℕ}
+use Rattle.std.proofs.Common.{◌≡◌, arith, sym, subst, ℕ}
 use Rattle.dai_trail.specs.Formula.{IsBelow, value_at}
 use Rattle.dai_trail.proofs.Resolutions.{ok_map}
 use Rattle.dai_circuit.specs.Circuits.{all_true}

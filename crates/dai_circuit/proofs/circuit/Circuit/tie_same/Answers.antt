@@ -1,8 +1,8 @@
-use Rattle.std.proofs.Common.{◌≡◌, List, Bool, false, not, arith, sym, ap, ◌∙◌, subst}
+use Rattle.std.proofs.Common.{◌≡◌, List, Bool, not, arith, sym, ap, ◌∙◌}
 use Rattle.dai_trail.specs.declared.cnf.Lit.{Lit}
 use Rattle.dai_trail.specs.Formula.{value_at}
 use Rattle.dai_trail.proofs.Resolutions.{ok_map}
-use Rattle.dai_circuit.specs.Circuits.{lit_value, same_value, opposite, Adds, IsTied}
+use Rattle.dai_circuit.specs.Circuits.{lit_value, same_value, opposite, IsTied}
 use Rattle.dai_circuit.proofs.Values.{value-opposite, same_when_true, same_when_false, same_by_cases}
 use Rattle.dai_circuit.proofs.Extensions.{adds_after, adds_weaker}
 use Rattle.dai_circuit.proofs.circuit.Circuit.tie_same.Goals as goal

@@ -1,7 +1,7 @@
-use Rattle.std.proofs.Common.{◌≡◌, ◌∷◌, [], ℕ, List, Bool, true, not, ◌||◌, false, ap, ◌∙◌, sym, subst}
+use Rattle.std.proofs.Common.{◌≡◌, ◌∷◌, [], ℕ, List, Bool, not, ◌||◌, false, ap, ◌∙◌, sym}
 use Rattle.std.specs.List.{list_any}
 use Rattle.dai_trail.specs.declared.cnf.Lit.{Lit}
-use Rattle.dai_trail.specs.Formula.{AreMetBy, value_at}
+use Rattle.dai_trail.specs.Formula.{value_at}
 use Rattle.dai_trail.proofs.Resolutions.{ok_map}
 use Rattle.dai_circuit.specs.Circuits.{lit_value, opposite, variable, Adds, IsTied}
 use Rattle.dai_circuit.proofs.Values.{tied_first, tied_second, tied_by, value-opposite}

@@ -1,4 +1,4 @@
-use Rattle.std.proofs.Common.{◌≡◌, ◌<◌, length, sym, ◌∙◌, arith, rules}
+use Rattle.std.proofs.Common.{◌≡◌, length, arith, rules}
 use Rattle.dai_inquiry.proofs.Places.{place_pushed}
 use Rattle.dai_inquiry.specs.declared.by_block.ByBlock.{ByBlock}
 use Rattle.dai_inquiry.proofs.by_block.ByBlock.place_added.Goals as goal

@@ -1,6 +1,3 @@
-use Rattle.std.proofs.Common.{ℕ, Option, subst}
-use Rattle.std.specs.Prelude.{IfSome}
-use Rattle.dai_inquiry.specs.Places.{IsPlaceOf}
 use Rattle.dai_inquiry.proofs.by_block.ByBlock.place_of.Goals as goal
 
 pub returns-clause-place : goal.returns-clause-place

@@ -2,7 +2,6 @@ use Rattle.std.proofs.Common.{refl, sym, subst}
 use Rattle.std.proofs.lemmas.List.Elements.{All-set}
 use Rattle.dai_logic.specs.Protocols.{protocol_of}
 use Rattle.dai_inquiry.specs.Inquiries.{IsInquiry}
-use Rattle.dai_inquiry.specs.declared.by_block.ByBlock.{ByBlock}
 use Rattle.dai_inquiry.proofs.Places.{place_renewed}
 use Rattle.dai_inquiry.proofs.by_block.ByBlock.renew.Goals as goal
 
@@ -20,5 +19,5 @@ returns-clause-open c =
 pub returns-clause-place : goal.returns-clause-place
 returns-clause-place c = λ block h. place_renewed c.args.self.now _ block c.args.place c.index_mut-inquiry.result.now c.reopen.new.self c.index_mut-inquiry.ensures.value c.reopen.ensures.block refl h
 
-pub returns-then-not-has_doubled-clause-place : goal.returns-then-not-has_doubled-clause-place
-returns-then-not-has_doubled-clause-place c = λ block h. place_renewed c.args.self.now _ block c.args.place c.index_mut-inquiry.result.now c.index_mut-inquiry.result.now c.index_mut-inquiry.ensures.value refl refl h
+pub returns-then-not-is_mostly_goals-clause-place : goal.returns-then-not-is_mostly_goals-clause-place
+returns-then-not-is_mostly_goals-clause-place c = λ block h. place_renewed c.args.self.now _ block c.args.place c.index_mut-inquiry.result.now c.index_mut-inquiry.result.now c.index_mut-inquiry.ensures.value refl refl h

@@ -6,4 +6,4 @@ pub returns-clause-inquiry : goal.returns-clause-inquiry
 returns-clause-inquiry c =
     let P = protocol_of c.args.protocol.now in
     let q = c.in_ok-circuit.ensures.is_open in
-    record { called = q.called; named = subst (λ b. block_named P b ≡ Some q.called) c.in_ok-circuit.ensures.block q.named; is_open = q.is_open }
+    record { called = q.called; named = subst (λ b. block_named P b ≡ Some q.called) c.in_ok-circuit.ensures.block q.named; is_open = q.is_open; premises = q.premises; goals = q.goals }

@@ -7,7 +7,8 @@ use Rattle.dai_logic.specs.Protocols.{protocol_of}
 use Rattle.dai_logic.specs.Trees.{formula_of}
 use Rattle.dai_template.specs.Spaces.{clause_of}
 use Rattle.dai_weaken.specs.Judging.{AnswersAtFirst}
-use Rattle.dai_judge.specs.Memory.{Decides, clauses_in}
+use Rattle.dai_inquiry.specs.Keys.{clauses_in}
+use Rattle.dai_judge.specs.Memory.{Decides}
 use Rattle.dai_judge.specs.Ready.{ArePremisesOf}
 use Rattle.dai_judge.proofs.Bridge.{answers_at_first}
 use Rattle.dai_judge.proofs.judging.SizedJudgeJudge.initiation.Goals as goal

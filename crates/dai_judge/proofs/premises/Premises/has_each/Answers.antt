@@ -1,5 +1,5 @@
 use Rattle.std.proofs.Common.{arith, rules}
-use Rattle.dai_judge.specs.Memory.{clauses_in}
+use Rattle.dai_inquiry.specs.Keys.{clauses_in}
 use Rattle.dai_judge.proofs.Remembered.{among_each, among_more}
 use Rattle.dai_judge.proofs.premises.Premises.has_each.Goals as goal
 

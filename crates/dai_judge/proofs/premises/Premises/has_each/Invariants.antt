@@ -1,7 +1,7 @@
 use Rattle.std.proofs.Common.{ℕ, ◌<◌, length, get_or}
 use Rattle.std.specs.List.{Contains}
-use Rattle.dai_judge.specs.declared.keys.Key.{Key}
-use Rattle.dai_judge.specs.Memory.{clause_in, clauses_in}
+use Rattle.dai_inquiry.specs.declared.keys.Key.{Key}
+use Rattle.dai_inquiry.specs.Keys.{clause_in, clauses_in}
 use Rattle.dai_judge.proofs.premises.Premises.has_each.Given as goal
 
 abbrev pub invariant-loop-key : goal.invariant-loop-key

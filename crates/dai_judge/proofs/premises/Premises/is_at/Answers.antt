@@ -1,6 +1,6 @@
 use Rattle.std.proofs.Common.{subst}
 use Rattle.std.specs.List.{Contains}
-use Rattle.dai_judge.specs.Memory.{clause_in, clauses_in}
+use Rattle.dai_inquiry.specs.Keys.{clause_in, clauses_in}
 use Rattle.dai_judge.proofs.Remembered.{member_at}
 use Rattle.dai_judge.proofs.premises.Premises.is_at.Goals as goal
 
